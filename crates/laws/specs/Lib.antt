@@ -1,0 +1,5 @@
+pub mod Chain
+pub mod Choice
+pub mod Range
+pub mod Sequence
+pub mod Update

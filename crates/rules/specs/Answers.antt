@@ -1,0 +1,37 @@
+-- The paper's number and values for each case of each answer.
+use Prim.Native.Nat.{ℕ}
+use mathlib.Core.List.{List, [], _∷_}
+use Rattle.rules.specs.declared.SetupAnswer.{SetupAnswer}
+use Rattle.rules.specs.declared.SetupAnswer.the-variants
+use Rattle.rules.specs.declared.JobAnswer.{JobAnswer}
+use Rattle.rules.specs.declared.PickAnswer.{PickAnswer}
+use Rattle.rules.specs.declared.ReportAnswer.{ReportAnswer}
+use Rattle.rules.specs.declared.AskAnswer.{AskAnswer}
+use Rattle.rules.specs.declared.BoardAnswer.{BoardAnswer}
+use Rattle.rules.specs.Calls.{Says, refused, answers}
+
+abbrev pub setupSays : SetupAnswer → Says
+setupSays (SetupAnswer.Refused k) = refused k
+setupSays SetupAnswer.Accepted = answers []
+
+abbrev pub jobSays : JobAnswer → Says
+jobSays (JobAnswer.Refused k) = refused k
+jobSays (JobAnswer.Taken j putoff) = answers (j ∷ putoff ∷ [])
+jobSays (JobAnswer.PutOff putoff) = answers (putoff ∷ [])
+
+abbrev pub pickSays : PickAnswer → Says
+pickSays (PickAnswer.Refused k) = refused k
+pickSays (PickAnswer.Picked j e ticket passed) = answers (j ∷ e ∷ ticket ∷ passed ∷ [])
+pickSays PickAnswer.Nothing = answers (0 ∷ [])
+
+abbrev pub reportSays : ReportAnswer → Says
+reportSays (ReportAnswer.Refused k) = refused k
+reportSays (ReportAnswer.Reported putoff) = answers (putoff ∷ [])
+
+abbrev pub askSays : AskAnswer → Says
+askSays (AskAnswer.Refused k) = refused k
+askSays (AskAnswer.Overtakers sum) = answers (sum ∷ [])
+
+abbrev pub boardSays : BoardAnswer → Says
+boardSays (BoardAnswer.Refused k) = refused k
+boardSays (BoardAnswer.Written n) = answers (n ∷ [])

@@ -1,0 +1,58 @@
+-- Document 01, "Board text", as bytes.
+use Prim.Native.Nat.{ℕ, zero, suc, _+_, _/_, _%_}
+use mathlib.Core.List.{List, [], _∷_, _++_}
+use lib.Dec.{ltb}
+use Rattle.laws.specs.Choice.{if_then_else_}
+use Rattle.rules.specs.declared.Health.{Health}
+use Rattle.rules.specs.declared.Health.the-variants.{Live, Dead}
+use Rattle.rules.specs.declared.State.{State}
+use Rattle.rules.specs.State.{at, healthOf}
+
+-- "Numbers are decimal without leading zeros": those of at most n + 1 digits
+unfoldable pub decimalIn : ℕ → ℕ → List ℕ
+decimalIn zero x = (48 + x % 10) ∷ []
+decimalIn (suc n) x = if ltb x 10 then (48 + x) ∷ [] else decimalIn n (x / 10) ++ ((48 + x % 10) ∷ [])
+
+-- a number below 2^64 has at most 20 digits
+unfoldable pub decimal : ℕ → List ℕ
+decimal x = decimalIn 19 x
+
+-- "AT ", "D ", " LIVE ", " DEAD ", " " and the end of a line, byte 10
+abbrev pub atWord : List ℕ
+atWord = 65 ∷ 84 ∷ 32 ∷ []
+
+abbrev pub lineWord : List ℕ
+lineWord = 68 ∷ 32 ∷ []
+
+abbrev pub liveWord : List ℕ
+liveWord = 32 ∷ 76 ∷ 73 ∷ 86 ∷ 69 ∷ 32 ∷ []
+
+abbrev pub deadWord : List ℕ
+deadWord = 32 ∷ 68 ∷ 69 ∷ 65 ∷ 68 ∷ 32 ∷ []
+
+abbrev pub blank : List ℕ
+blank = 32 ∷ []
+
+abbrev pub lineEnd : List ℕ
+lineEnd = 10 ∷ []
+
+-- "`AT` and the last accepted clock"
+unfoldable pub clockLine : ℕ → List ℕ
+clockLine clock = atWord ++ decimal clock ++ lineEnd
+
+-- "the four bytes LIVE or DEAD, then window and busy, or the end second"
+unfoldable pub healthText : Health → ℕ → List ℕ
+healthText (Live u) busy = liveWord ++ decimal (u .window) ++ blank ++ decimal busy
+healthText (Dead end) busy = deadWord ++ decimal end
+
+-- "one line a destination .. : number, .."
+unfoldable pub destinationLine : ℕ → Health → ℕ → List ℕ
+destinationLine d h busy = lineWord ++ decimal d ++ healthText h busy ++ lineEnd
+
+-- "rising": the lines of the destinations below n
+unfoldable pub destinationLines : State → ℕ → List ℕ
+destinationLines s zero = []
+destinationLines s (suc d) = destinationLines s d ++ destinationLine d (healthOf s d) (at (s .busy .destination) d)
+
+unfoldable pub boardText : State → List ℕ
+boardText s = clockLine (s .clock) ++ destinationLines s (s .setup .destinations)

@@ -1,0 +1,60 @@
+-- Demand 3: small mail may overtake, at a price with a ceiling. One claim about a whole list of calls from an accepted set-up.
+use Prim.Native.Nat.{ℕ, suc, _+_, _-_, _/_, _≤_, _<_}
+use mathlib.Core.Path.{_≡_}
+use mathlib.Core.Bool.{true}
+use mathlib.Core.List.{List, [], _∷_, _++_}
+use lib.ListN.{length, getD}
+use Rattle.rules.specs.declared.Setup.{Setup}
+use Rattle.rules.specs.State.{at, isPresent, zeroSettings}
+use Rattle.rules.specs.Setup.{setupInRange}
+use Rattle.rules.specs.Sound.{sound}
+use Rattle.rules.specs.Calls.{Call, Says, Reply, answers, replyTo}
+use Rattle.rules.specs.Tally.{Row, Tally, rowAt, rowOf, linkedRow}
+use Rattle.rules.specs.Run.{stateAfter, tallyOf}
+use Rattle.rules.specs.Ledger.{Account, accountAt, accountsOf, stillWaiting}
+
+-- the slot cost of a row's transport
+abbrev pub costFor : Setup → Row → ℕ
+costFor u r = getD (u .settings) (r .transport) zeroSettings .cost
+
+-- what holds of one row
+pub record Ceilings (c : ℕ) (r : Row) : Type 0 where
+  -- with c of 2 or more, the overtakers are at most n/(c-1) rounded down
+  pub overtakers : 2 ≤ c → r .overtakers ≤ r .n / (c - 1)
+  -- with c = 0 nobody overtakes
+  pub nobody : c ≡ 0 → r .overtakers ≡ 0
+  -- where nobody was passed over up to its last pick, that comes no later than N + N/(c-1) rounded down, and than N with c = 0
+  pub lastpick : r .lasttotal ≡ 0 → 2 ≤ c → r .lastpick ≤ r .upto + r .upto / (c - 1)
+  pub lastpickoff : r .lasttotal ≡ 0 → c ≡ 0 → r .lastpick ≤ r .upto
+
+pub record Demand3 (u : Setup) (calls : List Call) : Type 0 where
+  -- every row of the tally, of jobs that left too
+  pub ceilings : (i : ℕ) → i < length (tallyOf u calls .rows) → Ceilings (costFor u (rowAt (tallyOf u calls .rows) i)) (rowAt (tallyOf u calls .rows) i)
+  -- after every prefix a present job has a row, and asking about it is accepted and answers that row's overtakers
+  pub asking :
+      (before after : List Call)
+      → calls ≡ before ++ after
+      → (j : ℕ)
+      → isPresent (stateAfter u before) j ≡ true
+      → (1 ≤ rowOf (tallyOf u before .rows) j)
+      × (replyTo (stateAfter u before) (Call.ask j) .says
+      ≡ answers (linkedRow (tallyOf u before .rows) (rowOf (tallyOf u before .rows) j) .overtakers ∷ []))
+
+-- beside it, of the same runs
+pub record Companions (u : Setup) (calls : List Call) : Type 0 where
+  -- every state reached is sound
+  pub reached : sound (stateAfter u calls) ≡ true
+  -- so no call is refused with 1
+  pub never1 : (call : Call) → replyTo (stateAfter u calls) call .says .refusal ≡ 1 → ⊥
+  -- entries taken to wait = picked + put off later + still waiting, for each job ever taken
+  pub nothingLost :
+      (i : ℕ)
+      → i < length (accountsOf u calls)
+      → accountAt (accountsOf u calls) i .taken
+      ≡ accountAt (accountsOf u calls) i .picked + accountAt (accountsOf u calls) i .putoff + stillWaiting (stateAfter u calls) (accountsOf u calls) i
+  -- the stop at 65,535 never bites: sums stay at most n, that is at most 256
+  pub sumsSmall : (j : ℕ) → isPresent (stateAfter u calls) j ≡ true → at (stateAfter u calls .jobs .overtakers) j ≤ 256
+
+-- what is claimed, for every accepted set-up and every list of calls
+abbrev pub Demand3Holds : Type 0
+Demand3Holds = (u : Setup) (calls : List Call) → setupInRange u ≡ true → Demand3 u calls × Companions u calls

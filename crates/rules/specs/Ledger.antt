@@ -1,0 +1,68 @@
+-- "Also, from the history: entries taken to wait = picked + put off later + still waiting": a row for each job ever taken, fed decisions.
+use Prim.Native.Nat.{ℕ, zero, suc, _+_}
+use mathlib.Core.Bool.{Bool, true, false, _&&_}
+use mathlib.Core.List.{List, [], _∷_, _++_}
+use lib.ListN.{length, getD, set}
+use lib.Dec.{eqb}
+use Rattle.laws.specs.Choice.{if_then_else_}
+use Rattle.laws.specs.Range.{lastTo}
+use Rattle.rules.specs.declared.Setup.{Setup}
+use Rattle.rules.specs.declared.State.{State}
+use Rattle.rules.specs.State.{isPresent, waitingOf}
+use Rattle.rules.specs.Setup.{freshState}
+use Rattle.rules.specs.Calls.{Call, Decision, nothing, took, picked, putOff}
+use Rattle.rules.specs.Run.{decisionsFrom}
+
+pub record Account : Type 0 where
+  pub job : ℕ
+  -- the entries taken to wait, those picked since, those put off since
+  pub taken : ℕ
+  pub picked : ℕ
+  pub putoff : ℕ
+
+abbrev pub noAccount : Account
+noAccount = record { job = 0; taken = 0; picked = 0; putoff = 0 }
+
+abbrev pub accountAt : List Account → ℕ → Account
+accountAt l i = getD l i noAccount
+
+-- the link to the newest account with this job number
+unfoldable pub accountOf : List Account → ℕ → ℕ
+accountOf l j = lastTo (λ i. eqb (accountAt l i .job) j) (length l)
+
+-- p more picked and q more put off at the account that the link leads to
+unfoldable pub booked : ℕ → ℕ → ℕ → List Account → List Account
+booked zero p q l = l
+booked (suc i) p q l =
+    set l i
+    (record {
+      job = accountAt l i .job;
+      taken = accountAt l i .taken;
+      picked = accountAt l i .picked + p;
+      putoff = accountAt l i .putoff + q;
+    })
+
+unfoldable pub bookedPutOff : List ℕ → List Account → List Account
+bookedPutOff [] l = l
+bookedPutOff (j ∷ jobs) l = bookedPutOff jobs (booked (accountOf l j) 0 1 l)
+
+unfoldable pub entered : List Account → Decision → List Account
+entered l nothing = l
+entered l (took j t n) = l ++ (record { job = j; taken = n; picked = 0; putoff = 0 } ∷ [])
+entered l (picked j passed p) = booked (accountOf l j) 1 0 l
+entered l (putOff jobs) = bookedPutOff jobs l
+
+unfoldable pub enteredAll : List Account → List Decision → List Account
+enteredAll l [] = l
+enteredAll l (d ∷ ds) = enteredAll (entered l d) ds
+
+-- the accounts after these calls
+unfoldable pub accountsOf : Setup → List Call → List Account
+accountsOf u calls = enteredAll [] (decisionsFrom (freshState u) calls)
+
+-- what of account i still waits: of the newest account of a present job its waiting entries, else none
+unfoldable pub stillWaiting : State → List Account → ℕ → ℕ
+stillWaiting s l i =
+    if isPresent s (accountAt l i .job) && eqb (accountOf l (accountAt l i .job)) (suc i)
+    then waitingOf s (accountAt l i .job)
+    else 0

@@ -1,0 +1,97 @@
+-- Document 01, "Picking and preemption": a pick put together, and what it decides. The state here is the one after waking.
+use Prim.Native.Nat.{ℕ, zero, suc, _+_, _%_}
+use mathlib.Core.Bool.{Bool, true, false}
+use mathlib.Core.List.{List, [], _∷_}
+use lib.ListN.{getD, set}
+use Rattle.laws.specs.Choice.{if_then_else_}
+use Rattle.rules.specs.declared.Busy.{Busy}
+use Rattle.rules.specs.declared.Jobs.{Jobs}
+use Rattle.rules.specs.declared.Entries.{Entries}
+use Rattle.rules.specs.declared.State.{State}
+use Rattle.rules.specs.Sizes.{tickets}
+use Rattle.rules.specs.State.{at, transportOf, destinationOf, waitingOf}
+use Rattle.rules.specs.Picking.{finds, nextTransport, currentJob, passedOver, nextPlace, nextEntry}
+use Rattle.rules.specs.Preemption.{preemptorOf, preempting}
+
+-- who preempted whom with how many waiting
+pub data Preemption : Type 0 where
+  nobody : Preemption
+  -- by x, of y, with m waiting
+  preemption : ℕ → ℕ → ℕ → Preemption
+
+-- what a pick finds
+pub record Found : Type 0 where
+  pub transport : ℕ
+  pub job : ℕ
+  pub entry : ℕ
+  pub passed : ℕ
+  pub preempted : Preemption
+
+abbrev pub pickedJobs : Jobs → ℕ → ℕ → Jobs
+pickedJobs g j place =
+    record {
+      present = g .present;
+      transport = g .transport;
+      n = g .n;
+      picked = set (g .picked) j (at (g .picked) j + 1);
+      dropped = g .dropped;
+      sold = g .sold;
+      parent = g .parent;
+      preempted = g .preempted;
+      arrival = g .arrival;
+      overtakers = g .overtakers;
+      turn = set (g .turn) j (place + 1);
+      places = g .places;
+      order = g .order;
+    }
+
+abbrev pub pickedEntries : Entries → ℕ → ℕ → Entries
+pickedEntries g e ticket =
+    record { kind = set (g .kind) e 2; job = g .job; destination = g .destination; ticket = set (g .ticket) e ticket }
+
+abbrev pub oneMoreBusy : Busy → ℕ → ℕ → Busy
+oneMoreBusy b t d =
+    record {
+      transport = set (b .transport) t (at (b .transport) t + 1);
+      destination = set (b .destination) d (at (b .destination) d + 1);
+    }
+
+-- entry e of job j, at this place of its destination order, is handed out on transport t: "Every pick issues a ticket"
+unfoldable pub handedOut : State → ℕ → ℕ → ℕ → ℕ → State
+handedOut s t j place e =
+    record {
+      setup = s .setup;
+      clock = s .clock;
+      ticket = (s .ticket + 1) % tickets;
+      turn = t + 1;
+      destinations = s .destinations;
+      busy = oneMoreBusy (s .busy) t (destinationOf s e);
+      queues = s .queues;
+      arrivals = s .arrivals;
+      jobs = pickedJobs (s .jobs) j place;
+      entries = pickedEntries (s .entries) e (s .ticket);
+    }
+
+-- what is picked, and the state after it: from the current job y, or from the job that preempts it
+pub record Picked : Type 0 where
+  pub found : Found
+  pub state : State
+
+unfoldable pub pickFrom : State → ℕ → ℕ → ℕ → Preemption → Picked
+pickFrom s t j passed p =
+    record {
+      found = record { transport = t; job = j; entry = nextEntry s j; passed = passed; preempted = p };
+      state = handedOut s t j (nextPlace s j) (nextEntry s j);
+    }
+
+unfoldable pub pickWith : State → ℕ → ℕ → ℕ → Picked
+pickWith s t y zero = pickFrom s t y (passedOver s t y) nobody
+pickWith s t y (suc x) =
+    pickFrom (preempting s t x y (waitingOf s x)) t x (passedOver s t y) (preemption x y (waitingOf s x))
+
+unfoldable pub pickOn : State → ℕ → ℕ → ℕ → Picked
+pickOn s now t y = pickWith s t y (preemptorOf s now t y)
+
+-- the pick where some entry is eligible
+unfoldable pub picking : State → ℕ → Picked
+picking s now = pickOn s now (nextTransport s) (currentJob s (nextTransport s))

@@ -1,0 +1,149 @@
+-- Document 01, "Windows", last part: what a report does after the destination's step. The state here is the one after waking.
+use Prim.Native.Nat.{ℕ, zero, suc, _+_, _-_}
+use mathlib.Core.Bool.{Bool, true, false, not, _&&_}
+use mathlib.Core.List.{List, [], _∷_}
+use lib.ListN.{getD, set, length}
+use lib.Dec.{eqb}
+use Rattle.laws.specs.Choice.{if_then_else_}
+use Rattle.laws.specs.Range.{anyTo, countTo, chosenTo, tableTo}
+use Rattle.laws.specs.Chain.{firstAlong}
+use Rattle.laws.specs.Sequence.{keep}
+use Rattle.rules.specs.declared.Health.{Health}
+use Rattle.rules.specs.declared.Busy.{Busy}
+use Rattle.rules.specs.declared.Destination.{Destination}
+use Rattle.rules.specs.declared.Jobs.{Jobs}
+use Rattle.rules.specs.declared.Entries.{Entries}
+use Rattle.rules.specs.declared.State.{State}
+use Rattle.rules.specs.declared.Outcome.{Outcome}
+use Rattle.rules.specs.declared.Outcome.the-variants.{Success, Failure}
+use Rattle.rules.specs.Sizes.{maxJobs, maxEntries}
+use Rattle.rules.specs.State.{at, transportOf, settingsFor, healthOf, isLive, listOf, listed, queueOf, isWaiting, jobOf, destinationOf, isPresent}
+use Rattle.rules.specs.State.{usedOf, parentOf}
+use Rattle.rules.specs.Windows.{afterSuccess, afterFailure}
+
+-- "busy still counting this delivery"
+unfoldable pub reportedHealth : State → ℕ → ℕ → Outcome → Health
+reportedHealth s now d Success = afterSuccess (settingsFor s d) (at (s .busy .destination) d) (healthOf s d)
+reportedHealth s now d Failure = afterFailure (settingsFor s d) now (healthOf s d)
+
+-- the destination died in this step
+unfoldable pub dies : Health → Health → Bool
+dies before after = isLive before && not (isLive after)
+
+-- "its waiting entries are put off"
+unfoldable pub isPutOff : State → Bool → ℕ → ℕ → Bool
+isPutOff s died d e = died && isWaiting s e && eqb (destinationOf s e) d
+
+-- "entry numbers rising in the list"
+unfoldable pub putOffEntries : State → Bool → ℕ → List ℕ
+putOffEntries s died d = chosenTo (isPutOff s died d) maxEntries
+
+-- how many entries of a job are put off
+unfoldable pub putOffOf : State → Bool → ℕ → ℕ → ℕ
+putOffOf s died d j = countTo (λ e. isPutOff s died d e && eqb (jobOf s e) j) maxEntries
+
+-- "the reported entry is free"
+unfoldable pub kindAfter : State → Bool → ℕ → ℕ → ℕ → ℕ
+kindAfter s died d e i = if eqb i e then 0 else if isPutOff s died d i then 0 else at (s .entries .kind) i
+
+abbrev pub droppingJobs : Jobs → List ℕ → Jobs
+droppingJobs g dropped =
+    record {
+      present = g .present;
+      transport = g .transport;
+      n = g .n;
+      picked = g .picked;
+      dropped = dropped;
+      sold = g .sold;
+      parent = g .parent;
+      preempted = g .preempted;
+      arrival = g .arrival;
+      overtakers = g .overtakers;
+      turn = g .turn;
+      places = g .places;
+      order = g .order;
+    }
+
+abbrev pub oneLessBusy : Busy → ℕ → ℕ → Busy
+oneLessBusy b t d =
+    record {
+      transport = set (b .transport) t (at (b .transport) t - 1);
+      destination = set (b .destination) d (at (b .destination) d - 1);
+    }
+
+-- entry e, to destination d, is free again, and d's waiting entries are put off where it died
+unfoldable pub settled : State → ℕ → ℕ → Health → Bool → State
+settled s e d health died =
+    record {
+      setup = s .setup;
+      clock = s .clock;
+      ticket = s .ticket;
+      turn = s .turn;
+      destinations = set (s .destinations) d (record { health = health });
+      busy = oneLessBusy (s .busy) (transportOf s d) d;
+      queues = s .queues;
+      arrivals = s .arrivals;
+      jobs = droppingJobs (s .jobs) (tableTo (λ j. at (s .jobs .dropped) j + putOffOf s died d j) maxJobs);
+      entries =
+          record {
+            kind = tableTo (kindAfter s died d e) maxEntries;
+            job = s .entries .job;
+            destination = s .entries .destination;
+            ticket = s .entries .ticket;
+          };
+    }
+
+-- "Every job then without a waiting or busy entry leaves": the others stay
+unfoldable pub stays : State → ℕ → Bool
+stays s j = isPresent s j && anyTo (usedOf s j) maxEntries
+
+-- "Its children pass to the nearest ancestor that stays, or to none"
+unfoldable pub parentAfter : State → ℕ → ℕ
+parentAfter s j = if stays s j then firstAlong (stays s) (parentOf s) maxJobs (parentOf s j) else parentOf s j
+
+abbrev pub remainingJobs : Jobs → List Bool → List ℕ → Jobs
+remainingJobs g present parent =
+    record {
+      present = present;
+      transport = g .transport;
+      n = g .n;
+      picked = g .picked;
+      dropped = g .dropped;
+      sold = g .sold;
+      parent = parent;
+      preempted = g .preempted;
+      arrival = g .arrival;
+      overtakers = g .overtakers;
+      turn = g .turn;
+      places = g .places;
+      order = g .order;
+    }
+
+-- the jobs that do not stay have left. A report ends entries of one transport t only, so they are t's; "ranks close up when one leaves"
+unfoldable pub departed : State → ℕ → State
+departed s t =
+    record {
+      setup = s .setup;
+      clock = s .clock;
+      ticket = s .ticket;
+      turn = s .turn;
+      destinations = s .destinations;
+      busy = s .busy;
+      queues = set (s .queues) t (listed (keep (stays s) (queueOf s t)));
+      arrivals = listed (keep (stays s) (listOf (s .arrivals)));
+      jobs = remainingJobs (s .jobs) (tableTo (stays s) maxJobs) (tableTo (parentAfter s) maxJobs);
+      entries = s .entries;
+    }
+
+-- the put-off entries and the state after a report of entry e
+pub record Reported : Type 0 where
+  pub putoff : List ℕ
+  pub state : State
+
+unfoldable pub reportedAt : State → ℕ → ℕ → Health → Bool → Reported
+reportedAt s e d health died =
+    record { putoff = putOffEntries s died d; state = departed (settled s e d health died) (transportOf s d) }
+
+unfoldable pub reporting : State → ℕ → ℕ → ℕ → Outcome → Reported
+reporting s now e d outcome =
+    reportedAt s e d (reportedHealth s now d outcome) (dies (healthOf s d) (reportedHealth s now d outcome))

@@ -1,0 +1,161 @@
+-- Document 01, "The tally of demand 3": kept beside the rules, fed their decisions, reading nothing of a state.
+use Prim.Native.Nat.{ℕ, zero, suc, _+_}
+use mathlib.Core.Bool.{Bool, true, false}
+use mathlib.Core.List.{List, [], _∷_, _++_}
+use lib.ListN.{length, getD, set}
+use lib.Dec.{eqb}
+use Rattle.laws.specs.Choice.{if_then_else_}
+use Rattle.laws.specs.Range.{sumTo, lastTo}
+use Rattle.laws.specs.Chain.{alongChain}
+use Rattle.laws.specs.Update.{upd}
+use Rattle.rules.specs.Pick.{Preemption, nobody, preemption}
+use Rattle.rules.specs.Calls.{Decision, nothing, took, picked, putOff}
+
+-- a job's row; it stays when the job leaves
+pub record Row : Type 0 where
+  -- "number, transport, n"
+  pub job : ℕ
+  pub transport : ℕ
+  pub n : ℕ
+  -- "N, the sum of n over that transport's rows so far, its own included"
+  pub upto : ℕ
+  pub overtakers : ℕ
+  -- the link to the row that it names: 0 for none
+  pub names : ℕ
+  -- the transport's picks and its total at its last pick; 0 before the first
+  pub lastpick : ℕ
+  pub lasttotal : ℕ
+
+pub record Tally : Type 0 where
+  -- "Jobs have rows in order of taking"
+  pub rows : List Row
+  -- "each transport's picks and passed-over total"
+  pub picks : ℕ → ℕ
+  pub total : ℕ → ℕ
+
+-- "At first there are no rows, and each transport's picks and passed-over total are 0"
+unfoldable pub noTally : Tally
+noTally = record { rows = []; picks = λ t. 0; total = λ t. 0 }
+
+abbrev pub noRow : Row
+noRow = record { job = 0; transport = 0; n = 0; upto = 0; overtakers = 0; names = 0; lastpick = 0; lasttotal = 0 }
+
+abbrev pub rowAt : List Row → ℕ → Row
+rowAt rows i = getD rows i noRow
+
+-- "a present job's row is the newest with its number": the link to it
+unfoldable pub rowOf : List Row → ℕ → ℕ
+rowOf rows j = lastTo (λ i. eqb (rowAt rows i .job) j) (length rows)
+
+-- the row that a link leads to
+unfoldable pub linkedRow : List Row → ℕ → Row
+linkedRow rows zero = noRow
+linkedRow rows (suc i) = rowAt rows i
+
+-- what a row adds to N on transport t
+unfoldable pub countsOn : ℕ → Row → ℕ
+countsOn t r = if eqb (r .transport) t then r .n else 0
+
+-- "Job taken, n of 1 or more: a new row .."
+unfoldable pub withJob : Tally → ℕ → ℕ → ℕ → Tally
+withJob y j t n =
+    record {
+      rows = y .rows ++ (new ∷ []);
+      picks = y .picks;
+      total = y .total;
+    }
+  where
+    new : Row
+    new =
+        record {
+          job = j;
+          transport = t;
+          n = n;
+          upto = sumTo (λ i. countsOn t (rowAt (y .rows) i)) (length (y .rows)) + n;
+          overtakers = 0;
+          names = 0;
+          lastpick = 0;
+          lasttotal = 0;
+        }
+
+-- the overtakers of a row grow by m
+unfoldable pub overtakenBy : ℕ → ℕ → List Row → List Row
+overtakenBy m i rows =
+    set rows i
+    (record {
+      job = rowAt rows i .job;
+      transport = rowAt rows i .transport;
+      n = rowAt rows i .n;
+      upto = rowAt rows i .upto;
+      overtakers = rowAt rows i .overtakers + m;
+      names = rowAt rows i .names;
+      lastpick = rowAt rows i .lastpick;
+      lasttotal = rowAt rows i .lasttotal;
+    })
+
+-- "X's row names Y's for good"
+unfoldable pub naming : ℕ → ℕ → List Row → List Row
+naming i link rows =
+    set rows i
+    (record {
+      job = rowAt rows i .job;
+      transport = rowAt rows i .transport;
+      n = rowAt rows i .n;
+      upto = rowAt rows i .upto;
+      overtakers = rowAt rows i .overtakers;
+      names = link;
+      lastpick = rowAt rows i .lastpick;
+      lasttotal = rowAt rows i .lasttotal;
+    })
+
+-- "The picked job's row notes both as its last pick"
+unfoldable pub noting : ℕ → ℕ → ℕ → List Row → List Row
+noting i picks total rows =
+    set rows i
+    (record {
+      job = rowAt rows i .job;
+      transport = rowAt rows i .transport;
+      n = rowAt rows i .n;
+      upto = rowAt rows i .upto;
+      overtakers = rowAt rows i .overtakers;
+      names = rowAt rows i .names;
+      lastpick = picks;
+      lasttotal = total;
+    })
+
+-- "the overtakers of Y's row, of the row that one names, and so on, each grow by m"
+unfoldable pub overtaken : ℕ → ℕ → List Row → List Row
+overtaken link m rows = alongChain (λ i. rowAt rows i .names) (overtakenBy m) (length rows) link rows
+
+-- row x and the link to row y: "If X, with m waiting, preempted Y"
+unfoldable pub withPreemption : ℕ → ℕ → ℕ → List Row → List Row
+withPreemption zero y m rows = rows
+withPreemption (suc x) y m rows = overtaken y m (naming x y rows)
+
+unfoldable pub preemptedRows : Preemption → List Row → List Row
+preemptedRows nobody rows = rows
+preemptedRows (preemption x y m) rows = withPreemption (rowOf rows x) (rowOf rows y) m rows
+
+-- the picked job's row i: "the transport's picks grow by 1, its total by the jobs passed over"
+unfoldable pub withPickAt : Tally → ℕ → ℕ → List Row → Tally
+withPickAt y zero passed rows = y
+withPickAt y (suc i) passed rows =
+    record {
+      rows = noting i (y .picks t + 1) (y .total t + passed) rows;
+      picks = upd (y .picks) t (y .picks t + 1);
+      total = upd (y .total) t (y .total t + passed);
+    }
+  where
+    t : ℕ
+    t = rowAt (y .rows) i .transport
+
+-- "Pick that finds an entry"
+unfoldable pub withPick : Tally → ℕ → ℕ → Preemption → Tally
+withPick y j passed p = withPickAt y (rowOf (y .rows) j) passed (preemptedRows p (y .rows))
+
+-- "Any other call, refused ones too: nothing changes"
+unfoldable pub tallied : Tally → Decision → Tally
+tallied y nothing = y
+tallied y (took j t n) = withJob y j t n
+tallied y (picked j passed p) = withPick y j passed p
+tallied y (putOff jobs) = y

@@ -1,0 +1,95 @@
+-- Document 01, "Windows" and the waking of "Time and tickets".
+use Prim.Native.Nat.{ℕ, zero, suc, _+_, _-_, _*_, _/_, min, max}
+use mathlib.Core.Bool.{Bool, true, false}
+use mathlib.Core.List.{List}
+use lib.ListN.{getD}
+use lib.Dec.{eqb, ltb, leb}
+use Rattle.laws.specs.Choice.{if_then_else_}
+use Rattle.laws.specs.Range.{tableTo}
+use Rattle.rules.specs.declared.Feedback.{Feedback}
+use Rattle.rules.specs.declared.Settings.{Settings}
+use Rattle.rules.specs.declared.Sums.{Sums}
+use Rattle.rules.specs.declared.Health.{Health}
+use Rattle.rules.specs.declared.Health.the-variants.{Live, Dead}
+use Rattle.rules.specs.declared.Destination.{Destination}
+use Rattle.rules.specs.declared.State.{State}
+use Rattle.rules.specs.Sizes.{U, maxDestinations}
+use Rattle.rules.specs.State.{settingsFor, healthOf, zeroDestination}
+use Rattle.rules.specs.Setup.{firstState}
+
+-- "Feedback of p percent is p·U/100 flat, or p·U/(100·window) per window"
+unfoldable pub feedback : Feedback → ℕ → ℕ
+feedback f window = if eqb (f .form) 0 then f .percent * U / 100 else f .percent * U / (100 * window)
+
+-- "cohorts grow by U/window": the share of a cohort that one failure is
+unfoldable pub cohortShare : ℕ → ℕ
+cohortShare window = U / window
+
+-- "cohorts are greater than limit times U", the cohort limit
+unfoldable pub isDeadAt : Settings → ℕ → Bool
+isDeadAt g cohorts = ltb (g .cohortlimit * U) cohorts
+
+-- "success grows by the feedback; at U or more, U is taken off, window grows by 1, failure becomes 0; a window over the limit is set to it"
+unfoldable pub raised : Settings → Sums → ℕ → Sums
+raised g u success =
+    if leb U success
+    then record { window = min (u .window + 1) (g .limit); success = success - U; failure = 0; cohorts = 0 }
+    else record { window = u .window; success = success; failure = u .failure; cohorts = 0 }
+
+-- "Live: cohorts 0. Then, only if window < busy + initial, busy still counting this delivery: success grows"
+unfoldable pub liveAfterSuccess : Settings → ℕ → Sums → Sums
+liveAfterSuccess g busy u =
+    if ltb (u .window) (busy + g .initial)
+    then raised g u (u .success + feedback (g .positive) (u .window))
+    else record { window = u .window; success = u .success; failure = u .failure; cohorts = 0 }
+
+-- "Success .. Dead: first state"
+unfoldable pub afterSuccess : Settings → ℕ → Health → Health
+afterSuccess g busy (Live u) = Live (liveAfterSuccess g busy u)
+afterSuccess g busy (Dead end) = Live (firstState g)
+
+-- "failure falls by the feedback of the old window; below 0, U is added, window falls by 1, success becomes 0; a window under 1 is set to 1"
+unfoldable pub lowered : Sums → ℕ → ℕ → Sums
+lowered u fall cohorts =
+    if ltb (u .failure) fall
+    then record { window = max (u .window - 1) 1; success = 0; failure = u .failure + U - fall; cohorts = cohorts }
+    else record { window = u .window; success = u .success; failure = u .failure - fall; cohorts = cohorts }
+
+-- "cohorts grow by U/window. If cohorts are greater than limit times U, the destination is dead until now + suspension .. Else .."
+unfoldable pub liveAfterFailure : Settings → ℕ → Sums → ℕ → Health
+liveAfterFailure g now u cohorts =
+    if isDeadAt g cohorts
+    then Dead (now + g .suspension)
+    else Live (lowered u (feedback (g .negative) (u .window)) cohorts)
+
+-- "Failure .. Dead: nothing changes"
+unfoldable pub afterFailure : Settings → ℕ → Health → Health
+afterFailure g now (Live u) = liveAfterFailure g now u (u .cohorts + cohortShare (u .window))
+afterFailure g now (Dead end) = Dead end
+
+-- "wakes destinations whose suspension ends at or before it, to their first state"
+unfoldable pub wokenHealth : Settings → ℕ → Health → Health
+wokenHealth g now (Live u) = Live u
+wokenHealth g now (Dead end) = if leb end now then Live (firstState g) else Dead end
+
+unfoldable pub wokenDestination : State → ℕ → ℕ → Destination
+wokenDestination s now d =
+    if ltb d (s .setup .destinations)
+    then record { health = wokenHealth (settingsFor s d) now (healthOf s d) }
+    else getD (s .destinations) d zeroDestination
+
+-- "Once accepted, each first wakes destinations": the state with this clock as the last accepted one, and all of them woken
+unfoldable pub woken : State → ℕ → State
+woken s now =
+    record {
+      setup = s .setup;
+      clock = now;
+      ticket = s .ticket;
+      turn = s .turn;
+      destinations = tableTo (wokenDestination s now) maxDestinations;
+      busy = s .busy;
+      queues = s .queues;
+      arrivals = s .arrivals;
+      jobs = s .jobs;
+      entries = s .entries;
+    }
