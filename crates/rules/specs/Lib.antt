@@ -3,6 +3,7 @@ pub mod State
 pub mod Setup
 pub mod Windows
 pub mod Sound
+pub mod SoundFacts
 pub mod Taking
 pub mod Picking
 pub mod Preemption

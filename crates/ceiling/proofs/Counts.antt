@@ -1,0 +1,89 @@
+-- Picks counted by row, and the picks that went past a waiting row.
+use Prim.Native.Nat.{ℕ, suc, _+_, _-_, _≤_, _<_, zero-le}
+use mathlib.Core.Path.{_≡_, refl, sym, _∙_}
+use mathlib.Core.Bool.{Bool, true, false, and-eq-true-iff}
+use native.Mathlib.Nat.{le-refl, le-of-eq, le-trans}
+use native.Mathlib.Omega.{arith}
+use lib.Dec.{eqb, ltb}
+use borrow.Author.Tests.{eqb-true, ltb-true, eq-eqb}
+use Rattle.laws.specs.Choice.{if_then_else_, one}
+use Rattle.laws.specs.Range.{sumTo}
+use Rattle.laws.proofs.Update.{at-or-off, upd-same, upd-other, upd-below, upd-all, upd-suc, if-true, if-both, one-le}
+use Rattle.laws.proofs.Sum.{sum-eq, sum-suc, sum-if-zero, sum-if-suc, sum-grow}
+use Rattle.ceiling.specs.Columns.{Columns, ofTransport, above, beyond}
+use Rattle.ceiling.specs.Steps.{Preempting, Picking, take, preempt, pick, drop}
+use Rattle.ceiling.proofs.Order.{Low, Order, low-self}
+
+above-true : (g : Columns) (j r : ℕ) → above g j r ≡ true → (g .transport r ≡ g .transport j) × (j < g .low r)
+above-true g j r e = let h = and-eq-true-iff (eqb (g .transport r) (g .transport j)) (ltb j (g .low r)) .0 e in (eqb-true _ _ (h .0), ltb-true j (g .low r) (h .1))
+
+pub record Counts (g : Columns) : Type 0 where
+  pub counted : (t : ℕ) → g .picks t ≡ ofTransport g t (g .picked) (g .rows)
+  pub behind : (j : ℕ) → j < g .rows → 1 ≤ g .waiting j → beyond g j ≤ g .blocked j
+  pub bounded : (j : ℕ) → j < g .rows → g .blocked j ≤ g .total (g .transport j)
+  pub sums : (j : ℕ) → j < g .rows → g .upto j ≡ ofTransport g (g .transport j) (g .n) (suc j)
+
+module _ {g : Columns} (w : Low g) (c : Counts g) where
+  pub counts-take : (t k : ℕ) → Counts (take g t k)
+  counts-take t k = record {
+    counted = λ u. c .counted u ∙ sym (sum-grow _ _ (g .rows) (λ i l. simp upd-below) (rw (upd-same (g .picked)) (if-both _ 0)));
+    behind = at-or-off _ (g .rows) (λ l q. le-trans (le-of-eq (sum-if-zero _ _ (suc (g .rows)) new)) zero-le) (λ j h l q. rw (beyond-take j (omega arith)) (simp upd-other (c .behind j (omega arith) (simp upd-other at q))));
+    bounded = at-or-off _ (g .rows) (λ l. simp upd-same (omega arith)) (λ j h l. simp upd-other (c .bounded j (omega arith)));
+    sums = at-or-off _ (g .rows) (λ l. simp (upd-same, sum-suc, own) (omega (arith, if-true (eqb t t) k 0 (eq-eqb t t refl)))) (λ j h l. simp upd-other (c .sums j (omega arith) ∙ older j (omega arith)));
+  }
+    where
+      -- no row's low lies above the new row
+      new : (r : ℕ) → r < suc (g .rows) → above (take g t k) (g .rows) r ≡ true → (take g t k) .picked r ≡ 0
+      new = at-or-off _ (g .rows) (λ l e. upd-same _ _ _) (λ r h l e. let b = above-true (take g t k) (g .rows) r e .1 in omega (arith, simp upd-other at b, low-self w r (omega arith)))
+
+      own : sumTo (λ r. if eqb ((take g t k) .transport r) t then (take g t k) .n r else 0) (g .rows) ≡ ofTransport g t (g .n) (g .rows)
+      own = sum-eq _ _ (g .rows) (λ i l. simp upd-below)
+
+      older : (j : ℕ) → j < g .rows → ofTransport g (g .transport j) (g .n) (suc j) ≡ ofTransport (take g t k) (g .transport j) ((take g t k) .n) (suc j)
+      older j q = sum-eq _ _ (suc j) (λ i l. let b : i < g .rows = omega arith in simp upd-below)
+
+      beyond-take : (j : ℕ) → j < g .rows → beyond (take g t k) j ≡ beyond g j
+      beyond-take j q = sum-grow _ _ (g .rows) (λ i l. simp upd-below) (rw (upd-same (g .picked)) (if-both _ 0))
+
+  pub counts-preempt : {cost : ℕ → ℕ} {x y m : ℕ} → Preempting cost g x y m → Counts (preempt g x y m)
+  counts-preempt {x = x} {y} {m} p = record { counted = c .counted; behind = λ j l q. rw beyond-preempt (c .behind j l q); bounded = c .bounded; sums = c .sums }
+    where
+      each : (j i : ℕ) → (if above (preempt g x y m) j i then g .picked i else 0) ≡ (if above g j i then g .picked i else 0)
+      each j = at-or-off _ x (rw (p .unpicked) (if-both _ 0 ∙ sym (if-both _ 0))) (λ r h. simp upd-other)
+
+      beyond-preempt : (j : ℕ) → beyond (preempt g x y m) j ≡ beyond g j
+      beyond-preempt j = sum-eq _ _ (g .rows) (λ i l. each j i)
+
+  module _ {Ahead : ℕ → ℕ → Type 0} {x k : ℕ} {by : ℕ → Bool} (p : Picking g Ahead x k by) where
+    beyond-pick : (j : ℕ) → beyond (pick g x k by) j ≡ beyond g j + one (above g j x)
+    beyond-pick j = sum-if-suc _ (g .picked) x (g .rows) (p .inside)
+
+    pub beyond-pick-self : beyond (pick g x k by) x ≤ g .blocked x
+    beyond-pick-self = omega (arith, beyond-pick x, c .behind x (p .inside) (p .waits), one-le (above g x x) 0 (λ e. omega (arith, above-true g x x e .1, low-self w x (p .inside))))
+
+    pub counts-pick : Order g Ahead → Counts (pick g x k by)
+    unfolding one
+    counts-pick o = record {
+      counted = λ t. omega (arith, upd-suc (g .picks) (g .transport x) t, sum-if-suc (λ r. eqb (g .transport r) t) (g .picked) x (g .rows) (p .inside), c .counted t);
+      behind = λ j l q. let v = le-trans q (waits-less j) in omega (arith, beyond-pick j, c .behind j l v, one-le (above g j x) (one (by j)) (λ e. seen j l v (above-true g j x e) (by j) refl));
+      bounded = λ j l. passed j l (by j) refl;
+      sums = c .sums;
+    }
+      where
+        waits-less : (j : ℕ) → (pick g x k by) .waiting j ≤ g .waiting j
+        waits-less = upd-all (λ j v. v ≤ g .waiting j) (g .waiting) x (g .waiting x - 1) (omega arith) (λ j h. le-refl _)
+
+        -- a waiting row below the low of x was passed
+        seen : (j : ℕ) → j < g .rows → 1 ≤ g .waiting j → (g .transport x ≡ g .transport j) × (j < g .low x) → (b : Bool) → by j ≡ b → 1 ≤ one b
+        seen j l v h true e = omega arith
+        seen j l v h false e =
+            let s = low-self w x (p .inside) in
+            let a = p .first j l (sym (h .0)) v (omega arith) e in
+            omega (arith, o .below x j a (omega arith))
+
+        passed : (j : ℕ) → j < g .rows → (b : Bool) → by j ≡ b → g .blocked j + one b ≤ (pick g x k by) .total (g .transport j)
+        passed j l true e = let b = c .bounded j l in let s = p .same j l e in rw (s, upd-same) (omega (arith, p .some j l e, rw s at b))
+        passed j l false e = omega (arith, c .bounded j l, upd-all (λ t v. g .total t ≤ v) (g .total) (g .transport x) (g .total (g .transport x) + k) (omega arith) (λ t h. le-refl _) (g .transport j))
+
+  pub counts-drop : (v : ℕ → ℕ) → ((r : ℕ) → r < g .rows → v r ≤ g .waiting r) → Counts (drop g v)
+  counts-drop v h = record { counted = c .counted; behind = λ j l q. c .behind j l (le-trans q (h j l)); bounded = c .bounded; sums = c .sums }

@@ -1,0 +1,9 @@
+pub mod Ceilings
+pub mod Chains
+pub mod Counts
+pub mod DoubleCount
+pub mod Forest
+pub mod Invariant
+pub mod Noted
+pub mod Order
+pub mod Overtaken

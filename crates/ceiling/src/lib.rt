@@ -1,0 +1,1 @@
+// Counting on columns of rows. No code.

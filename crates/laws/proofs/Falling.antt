@@ -1,0 +1,83 @@
+-- Laws of neverFalling.
+use Prim.Native.Nat.{ℕ, suc, _≤_, _<_}
+use mathlib.Core.Bool.{Bool, true, false, not, _&&_}
+use mathlib.Core.Path.{_≡_, refl, sym, _∙_, ap}
+use mathlib.Core.Logic.{_⊎_, inl, inr, ⊎-elim}
+use mathlib.Core.List.{List, [], _∷_, _++_}
+use native.Mathlib.Nat.{le-refl, le-trans}
+use lib.Dec.{eqb, leb}
+use lib.ListN.{length, getD, drop}
+use borrow.Author.Tests.{leb-true, le-leb}
+use Rattle.laws.specs.Sequence.{keep, holds, everyIn, neverFalling, upTo, insertBefore}
+use Rattle.laws.specs.Order.{Before}
+use Rattle.laws.proofs.Choice.{true-not-false, and-both, and-left, and-right}
+use Rattle.laws.proofs.Sequence.{holds-head, holds-tail, holds-cases, every-at, every-from}
+use Rattle.laws.proofs.Found.{up-to-rest, up-to-next}
+use Rattle.laws.proofs.Move.{insert-split}
+use Rattle.laws.proofs.Order.{before-left, before-right, before-append-left, before-append-right, before-across, before-append-cases, before-kept, before-getD}
+
+module _ (f : ℕ → ℕ) where
+  pub falling-at : (l : List ℕ) → neverFalling f l ≡ true → (x y : ℕ) → Before x y l → f x ≤ f y
+  unfolding neverFalling Before
+  falling-at [] h x y b = absurd b
+  falling-at (z ∷ l) h x y (inl r) =
+      rw (r .0) (leb-true (f z) (f y) (every-at (λ y. leb (f z) (f y)) l (and-left (everyIn (λ y. leb (f z) (f y)) l) (neverFalling f l) h) y (r .1)))
+  falling-at (z ∷ l) h x y (inr b) = falling-at l (and-right (everyIn (λ y. leb (f z) (f y)) l) (neverFalling f l) h) x y b
+
+  pub falling-from : (l : List ℕ) → ((x y : ℕ) → Before x y l → f x ≤ f y) → neverFalling f l ≡ true
+  unfolding neverFalling Before
+  falling-from [] h = refl
+  falling-from (z ∷ l) h =
+      and-both (every-from (λ y. leb (f z) (f y)) l λ y k. le-leb (f z) (f y) (h z y (inl (refl, k)))) (falling-from l λ x y b. h x y (inr b))
+
+  pub falling-getD : (l : List ℕ) → neverFalling f l ≡ true → (i j d : ℕ) → i < j → j < length l → f (getD l i d) ≤ f (getD l j d)
+  falling-getD l h i j d k m = falling-at l h (getD l i d) (getD l j d) (before-getD l i j d k m)
+
+  pub falling-keep : (p : ℕ → Bool) (l : List ℕ) → neverFalling f l ≡ true → neverFalling f (keep p l) ≡ true
+  falling-keep p l h = falling-from (keep p l) λ x y b. falling-at l h x y (before-kept x y p l b)
+
+  pub falling-append : (l m : List ℕ) → neverFalling f l ≡ true → neverFalling f m ≡ true → ((x y : ℕ) → holds x l ≡ true → holds y m ≡ true → f x ≤ f y) → neverFalling f (l ++ m) ≡ true
+  falling-append l m h k across =
+      falling-from (l ++ m) λ x y b.
+      ⊎-elim (falling-at l h x y) (⊎-elim (λ r. across x y (r .0) (r .1)) (falling-at m k x y)) (before-append-cases x y l m b)
+
+  pub falling-single : (x : ℕ) → neverFalling f (x ∷ []) ≡ true
+  unfolding neverFalling everyIn
+  falling-single x = refl
+
+  -- one more at the end
+  pub falling-last : (l : List ℕ) (y : ℕ) → neverFalling f l ≡ true → ((x : ℕ) → holds x l ≡ true → f x ≤ f y) → neverFalling f (l ++ (y ∷ [])) ≡ true
+  unfolding holds
+  falling-last l y h k =
+      falling-append l (y ∷ []) h (falling-single y) λ x z hx hz.
+      ⊎-elim (λ e. rw e (k x hx)) (λ n. true-not-false n refl) (holds-cases z y [] hz)
+
+  -- x put before y, where all before y is no greater
+  pub falling-insert : (x y : ℕ) (l : List ℕ) → holds y l ≡ true → neverFalling f l ≡ true → ((z : ℕ) → holds z (upTo y l) ≡ true → f z ≤ f x) → f x ≤ f y → neverFalling f (insertBefore x y l) ≡ true
+  unfolding Before
+  falling-insert x y l hy h ahead le =
+      rw (insert-split x y l hy)
+      (falling-append u (x ∷ r)
+      (falling-from u λ a b c. all a b (before-append-left a b u r c))
+      (falling-from (x ∷ r) λ a b c. ⊎-elim (λ q. rw (q .0) (least b (q .1))) (λ d. all a b (before-append-right a b u r d)) c)
+      (λ a b ha hb. ⊎-elim (λ e. rw e (ahead a ha)) (λ k. all a b (before-across a b u r ha k)) (holds-cases b x r hb)))
+    where
+      u : List ℕ
+      u = upTo y l
+
+      r : List ℕ
+      r = drop (length u) l
+
+      all : (a b : ℕ) → Before a b (u ++ r) → f a ≤ f b
+      all = falling-at (u ++ r) (rw (up-to-rest y l) h)
+
+      least : (b : ℕ) → holds b r ≡ true → f x ≤ f b
+      least b k =
+          ⊎-elim
+          (λ e. rw e le)
+          (λ m. le-trans le (all y b (before-append-right y b u r (rw (up-to-next y l hy) (inl (refl, m))))))
+          (holds-cases b y (drop (suc (length u)) l) (rw (up-to-next y l hy) at k))
+
+pub falling-same : (f g : ℕ → ℕ) (l : List ℕ) → ((x : ℕ) → holds x l ≡ true → f x ≡ g x) → neverFalling f l ≡ true → neverFalling g l ≡ true
+falling-same f g l e h =
+    falling-from g l λ x y b. rw (← e x (before-left x y l b), ← e y (before-right x y l b)) (falling-at f l h x y b)

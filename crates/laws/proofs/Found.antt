@@ -1,0 +1,97 @@
+-- Laws of firstOf and upTo.
+use Prim.Native.Nat.{ℕ, zero, suc, _+_, _≤_, _<_}
+use mathlib.Core.Bool.{Bool, true, false, not, _&&_, _||_}
+use mathlib.Core.Path.{_≡_, refl, sym, _∙_, ap, ap₂, subst}
+use mathlib.Core.Logic.{_⊎_, inl, inr, _≢_, ⊎-elim}
+use mathlib.Core.List.{List, [], _∷_, _++_}
+use native.Mathlib.Omega.{arith}
+use lib.Dec.{eqb}
+use lib.ListN.{length, drop, length-drop}
+use borrow.Author.Tests.{eqb-true, eqb-false, ne-eqb, not-true}
+use Rattle.laws.specs.Choice.{if_then_else_, one}
+use Rattle.laws.specs.Sequence.{holds, firstOf, upTo, everyIn}
+use Rattle.laws.proofs.Choice.{true-not-false, case-bool, not-is-true, and-both, or-right, or-neither, if-true, if-false, eqb-self, eqb-sym}
+use Rattle.laws.proofs.Sequence.{holds-head, holds-tail, holds-rest, holds-append-left, lacks-head, lacks-tail, every-at}
+
+-- what firstOf finds: an element that passes, or nothing passes
+pub first-of-cases : (p : ℕ → Bool) (l : List ℕ) (other : ℕ)
+    → ((holds (firstOf p l other) l ≡ true) × (p (firstOf p l other) ≡ true)) ⊎ ((firstOf p l other ≡ other) × (everyIn (λ x. not (p x)) l ≡ true))
+unfolding firstOf everyIn
+first-of-cases p [] other = inr (refl, refl)
+first-of-cases p (x ∷ l) other =
+    case-bool (p x)
+    (λ t. rw (if-true x (firstOf p l other) t) (inl (holds-head x l, t)))
+    (λ f.
+    rw (if-false x (firstOf p l other) f)
+    (⊎-elim
+    (λ r. inl (holds-tail (firstOf p l other) x l (r .0), r .1))
+    (λ r. inr (r .0, and-both (not-is-true f) (r .1)))
+    (first-of-cases p l other)))
+
+module _ (p : ℕ → Bool) where
+  pub first-of-none : (l : List ℕ) (other : ℕ) → everyIn (λ x. not (p x)) l ≡ true → firstOf p l other ≡ other
+  first-of-none l other h =
+      ⊎-elim
+      (λ r. true-not-false (r .1) (not-true (p (firstOf p l other)) (every-at (λ x. not (p x)) l h (firstOf p l other) (r .0))))
+      (λ r. r .0)
+      (first-of-cases p l other)
+
+  -- if some x passes, what is found passes and is in the list
+  pub first-of-passes : (l : List ℕ) (other x : ℕ) → holds x l ≡ true → p x ≡ true → p (firstOf p l other) ≡ true
+  first-of-passes l other x h t =
+      ⊎-elim (λ r. r .1) (λ r. true-not-false t (not-true (p x) (every-at (λ x. not (p x)) l (r .1) x h))) (first-of-cases p l other)
+
+  pub first-of-in : (l : List ℕ) (other x : ℕ) → holds x l ≡ true → p x ≡ true → holds (firstOf p l other) l ≡ true
+  first-of-in l other x h t =
+      ⊎-elim (λ r. r .0) (λ r. true-not-false t (not-true (p x) (every-at (λ x. not (p x)) l (r .1) x h))) (first-of-cases p l other)
+
+  pub first-of-append : (l m : List ℕ) (other : ℕ) → firstOf p (l ++ m) other ≡ firstOf p l (firstOf p m other)
+  unfolding firstOf
+  first-of-append [] m other = refl
+  first-of-append (x ∷ l) m other = rw (first-of-append l m other)
+
+  -- all that stands before what is found fails
+  pub up-to-first : (l : List ℕ) (other : ℕ) → everyIn (λ x. not (p x)) (upTo (firstOf p l other) l) ≡ true
+  unfolding firstOf upTo everyIn if_then_else_
+  up-to-first [] other = refl
+  up-to-first (x ∷ l) other =
+      case-bool (p x)
+      (λ t. rw (t, eqb-self x))
+      (λ f. rw f (case-bool (eqb x (firstOf p l other)) (λ e. rw e) (λ e. rw e (and-both (not-is-true f) (up-to-first l other)))))
+
+pub first-of-same : (p q : ℕ → Bool) (l : List ℕ) (other : ℕ) → ((x : ℕ) → holds x l ≡ true → p x ≡ q x) → firstOf p l other ≡ firstOf q l other
+unfolding firstOf
+first-of-same p q [] other h = refl
+first-of-same p q (x ∷ l) other h = rw (h x (holds-head x l), first-of-same p q l other (λ z k. h z (holds-tail z x l k)))
+
+module _ (y : ℕ) where
+  -- the list is what stands before the first y, and the rest
+  pub up-to-rest : (l : List ℕ) → upTo y l ++ drop (length (upTo y l)) l ≡ l
+  unfolding upTo if_then_else_
+  up-to-rest [] = refl
+  up-to-rest (x ∷ l) = case-bool (eqb x y) (λ t. rw t) (λ f. rw (f, up-to-rest l))
+
+  pub up-to-in : (x : ℕ) (l : List ℕ) → holds x (upTo y l) ≡ true → holds x l ≡ true
+  up-to-in x l h = subst (λ m. holds x m ≡ true) (up-to-rest l) (holds-append-left x (upTo y l) (drop (length (upTo y l)) l) h)
+
+  pub up-to-lacks : (l : List ℕ) → holds y (upTo y l) ≡ false
+  unfolding upTo holds if_then_else_
+  up-to-lacks [] = refl
+  up-to-lacks (x ∷ l) = case-bool (eqb x y) (λ t. rw t) (λ f. rw f (or-neither (eqb-sym y x ∙ f) (up-to-lacks l)))
+
+  pub up-to-none : (l : List ℕ) → holds y l ≡ false → upTo y l ≡ l
+  unfolding upTo
+  up-to-none [] h = refl
+  up-to-none (x ∷ l) h = rw (if-false [] (x ∷ upTo y l) (ne-eqb x y λ e. lacks-head y x l h (sym e)), up-to-none l (lacks-tail y x l h))
+
+  -- y stands directly behind
+  pub up-to-next : (l : List ℕ) → holds y l ≡ true → drop (length (upTo y l)) l ≡ y ∷ drop (suc (length (upTo y l))) l
+  unfolding upTo holds if_then_else_
+  up-to-next [] h = true-not-false h refl
+  up-to-next (x ∷ l) h =
+      case-bool (eqb x y)
+      (λ t. rw (t, eqb-true x y t))
+      (λ f. rw f (up-to-next l (holds-rest y x l (λ e. eqb-false x y f (sym e)) h)))
+
+  pub up-to-length : (l : List ℕ) → holds y l ≡ true → length (upTo y l) < length l
+  up-to-length l h = omega (arith, ap length (up-to-next l h), length-drop (length (upTo y l)) l, length-drop (suc (length (upTo y l))) l)

@@ -1,0 +1,16 @@
+pub mod All
+pub mod Choice
+pub mod Count
+pub mod Falling
+pub mod First
+pub mod Found
+pub mod Keep
+pub mod Move
+pub mod MoveOrder
+pub mod Once
+pub mod Order
+pub mod Sequence
+pub mod Table
+pub mod Sum
+pub mod Update
+pub mod Both
