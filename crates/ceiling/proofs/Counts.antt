@@ -8,7 +8,8 @@ use lib.Dec.{eqb, ltb}
 use borrow.Author.Tests.{eqb-true, ltb-true, eq-eqb}
 use Rattle.laws.specs.Choice.{if_then_else_, one}
 use Rattle.laws.specs.Range.{sumTo}
-use Rattle.laws.proofs.Update.{at-or-off, upd-same, upd-other, upd-below, upd-all, upd-suc, if-true, if-both, one-le}
+use Rattle.laws.proofs.Choice.{if-true, if-same, one-within}
+use Rattle.laws.proofs.Update.{at-or-off, upd-same, upd-other, upd-below, upd-all, upd-suc}
 use Rattle.laws.proofs.Sum.{sum-eq, sum-suc, sum-if-zero, sum-if-suc, sum-grow}
 use Rattle.ceiling.specs.Columns.{Columns, ofTransport, above, beyond}
 use Rattle.ceiling.specs.Steps.{Preempting, Picking, take, preempt, pick, drop}
@@ -26,10 +27,10 @@ pub record Counts (g : Columns) : Type 0 where
 module _ {g : Columns} (w : Low g) (c : Counts g) where
   pub counts-take : (t k : ℕ) → Counts (take g t k)
   counts-take t k = record {
-    counted = λ u. c .counted u ∙ sym (sum-grow _ _ (g .rows) (λ i l. simp upd-below) (rw (upd-same (g .picked)) (if-both _ 0)));
+    counted = λ u. c .counted u ∙ sym (sum-grow _ _ (g .rows) (λ i l. simp upd-below) (rw (upd-same (g .picked)) (if-same _ 0)));
     behind = at-or-off _ (g .rows) (λ l q. le-trans (le-of-eq (sum-if-zero _ _ (suc (g .rows)) new)) zero-le) (λ j h l q. rw (beyond-take j (omega arith)) (simp upd-other (c .behind j (omega arith) (simp upd-other at q))));
     bounded = at-or-off _ (g .rows) (λ l. simp upd-same (omega arith)) (λ j h l. simp upd-other (c .bounded j (omega arith)));
-    sums = at-or-off _ (g .rows) (λ l. simp (upd-same, sum-suc, own) (omega (arith, if-true (eqb t t) k 0 (eq-eqb t t refl)))) (λ j h l. simp upd-other (c .sums j (omega arith) ∙ older j (omega arith)));
+    sums = at-or-off _ (g .rows) (λ l. simp (upd-same, sum-suc, own) (omega (arith, if-true k 0 (eq-eqb t t refl)))) (λ j h l. simp upd-other (c .sums j (omega arith) ∙ older j (omega arith)));
   }
     where
       -- no row's low lies above the new row
@@ -43,13 +44,13 @@ module _ {g : Columns} (w : Low g) (c : Counts g) where
       older j q = sum-eq _ _ (suc j) (λ i l. let b : i < g .rows = omega arith in simp upd-below)
 
       beyond-take : (j : ℕ) → j < g .rows → beyond (take g t k) j ≡ beyond g j
-      beyond-take j q = sum-grow _ _ (g .rows) (λ i l. simp upd-below) (rw (upd-same (g .picked)) (if-both _ 0))
+      beyond-take j q = sum-grow _ _ (g .rows) (λ i l. simp upd-below) (rw (upd-same (g .picked)) (if-same _ 0))
 
   pub counts-preempt : {cost : ℕ → ℕ} {x y m : ℕ} → Preempting cost g x y m → Counts (preempt g x y m)
   counts-preempt {x = x} {y} {m} p = record { counted = c .counted; behind = λ j l q. rw beyond-preempt (c .behind j l q); bounded = c .bounded; sums = c .sums }
     where
       each : (j i : ℕ) → (if above (preempt g x y m) j i then g .picked i else 0) ≡ (if above g j i then g .picked i else 0)
-      each j = at-or-off _ x (rw (p .unpicked) (if-both _ 0 ∙ sym (if-both _ 0))) (λ r h. simp upd-other)
+      each j = at-or-off _ x (rw (p .unpicked) (if-same _ 0 ∙ sym (if-same _ 0))) (λ r h. simp upd-other)
 
       beyond-preempt : (j : ℕ) → beyond (preempt g x y m) j ≡ beyond g j
       beyond-preempt j = sum-eq _ _ (g .rows) (λ i l. each j i)
@@ -59,13 +60,13 @@ module _ {g : Columns} (w : Low g) (c : Counts g) where
     beyond-pick j = sum-if-suc _ (g .picked) x (g .rows) (p .inside)
 
     pub beyond-pick-self : beyond (pick g x k by) x ≤ g .blocked x
-    beyond-pick-self = omega (arith, beyond-pick x, c .behind x (p .inside) (p .waits), one-le (above g x x) 0 (λ e. omega (arith, above-true g x x e .1, low-self w x (p .inside))))
+    beyond-pick-self = omega (arith, beyond-pick x, c .behind x (p .inside) (p .waits), one-within (above g x x) 0 (λ e. omega (arith, above-true g x x e .1, low-self w x (p .inside))))
 
     pub counts-pick : Order g Ahead → Counts (pick g x k by)
     unfolding one
     counts-pick o = record {
       counted = λ t. omega (arith, upd-suc (g .picks) (g .transport x) t, sum-if-suc (λ r. eqb (g .transport r) t) (g .picked) x (g .rows) (p .inside), c .counted t);
-      behind = λ j l q. let v = le-trans q (waits-less j) in omega (arith, beyond-pick j, c .behind j l v, one-le (above g j x) (one (by j)) (λ e. seen j l v (above-true g j x e) (by j) refl));
+      behind = λ j l q. let v = le-trans q (waits-less j) in omega (arith, beyond-pick j, c .behind j l v, one-within (above g j x) (one (by j)) (λ e. seen j l v (above-true g j x e) (by j) refl));
       bounded = λ j l. passed j l (by j) refl;
       sums = c .sums;
     }

@@ -9,7 +9,7 @@ use lib.Dec.{eqb, ltb, leb}
 use borrow.Author.Tests.{eqb-true, ltb-true, leb-true, eq-eqb, lt-ltb, le-leb}
 use Rattle.laws.specs.Choice.{if_then_else_}
 use Rattle.laws.specs.Range.{sumTo}
-use Rattle.laws.proofs.Update.{if-true, if-elim}
+use Rattle.laws.proofs.Choice.{if-true, if-cases}
 use Rattle.laws.proofs.Sum.{sum-le, sum-eq, sum-le-add, sum-mul, sum-swap, sum-term, sum-if-zero, sum-if-all, sum-below}
 use Rattle.ceiling.specs.Columns.{Columns, sold, ofTransport, above, beyond}
 use Rattle.ceiling.proofs.Forest.{Forest}
@@ -68,19 +68,19 @@ nearSold g j = sumTo (λ y. if near g j y then sold g y else 0) (g .rows)
 
 module _ {cost : ℕ → ℕ} {g : Columns} (f : Forest cost g) (w : Low g) (j : ℕ) where
   picked-near : ofTransport g (g .transport j) (g .picked) (g .rows) ≤ nearCap g j + beyond g j
-  picked-near = sum-le-add _ _ _ (g .rows) (λ r l. if-elim (λ v. v ≤ share r) _ _ _ (λ e. each r l e) (λ e. omega arith))
+  picked-near = sum-le-add _ _ _ (g .rows) (λ r l. if-cases (λ v. v ≤ share r) _ (λ e. each r l e) (λ e. omega arith))
     where
       share : ℕ → ℕ
       share r = (if near g j r then g .cap r else 0) + (if above g j r then g .picked r else 0)
 
       each : (r : ℕ) → r < g .rows → eqb (g .transport r) (g .transport j) ≡ true → g .picked r ≤ share r
       each r l e = elim (decLt j (g .low r)) [
-        | yes q ↦ omega (arith, if-true (above g j r) (g .picked r) 0 (and-eq-true-iff (eqb (g .transport r) (g .transport j)) (ltb j (g .low r)) .1 (e, lt-ltb _ _ q)))
-        | no q ↦ omega (arith, f .room r l, if-true (near g j r) (g .cap r) 0 (near-of g j r (eqb-true _ _ e) (omega arith)))
+        | yes q ↦ omega (arith, if-true (g .picked r) 0 (and-eq-true-iff (eqb (g .transport r) (g .transport j)) (ltb j (g .low r)) .1 (e, lt-ltb _ _ q)))
+        | no q ↦ omega (arith, f .room r l, if-true (g .cap r) 0 (near-of g j r (eqb-true _ _ e) (omega arith)))
       ]
 
   near-later : nearCap g j ≤ ofTransport g (g .transport j) (g .n) (suc j) + laterCap g j
-  near-later = le-trans (sum-le-add _ early late (g .rows) (λ r l. if-elim (λ v. v ≤ early r + late r) _ _ _ (λ e. each r l e) (λ e. omega arith))) (omega (arith, sum-below own (suc j) (g .rows)))
+  near-later = le-trans (sum-le-add _ early late (g .rows) (λ r l. if-cases (λ v. v ≤ early r + late r) _ (λ e. each r l e) (λ e. omega arith))) (omega (arith, sum-below own (suc j) (g .rows)))
     where
       own : ℕ → ℕ
       own r = if eqb (g .transport r) (g .transport j) then g .n r else 0
@@ -93,8 +93,8 @@ module _ {cost : ℕ → ℕ} {g : Columns} (f : Forest cost g) (w : Low g) (j :
 
       each : (r : ℕ) → r < g .rows → near g j r ≡ true → g .cap r ≤ early r + late r
       each r l e = elim (decLt j r) [
-        | yes q ↦ omega (arith, if-true (later g j r) (g .cap r) 0 (later-of g j r e q))
-        | no q ↦ omega (arith, f .fits r l, if-true (ltb r (suc j)) (own r) 0 (lt-ltb r (suc j) (omega arith)), if-true (eqb (g .transport r) (g .transport j)) (g .n r) 0 (eq-eqb _ _ (near-true g j r e .0)))
+        | yes q ↦ omega (arith, if-true (g .cap r) 0 (later-of g j r e q))
+        | no q ↦ omega (arith, f .fits r l, if-true (own r) 0 (lt-ltb r (suc j) (omega arith)), if-true (g .n r) 0 (eq-eqb _ _ (near-true g j r e .0)))
       ]
 
   -- a near row after j names a near row
@@ -118,10 +118,10 @@ module _ {cost : ℕ → ℕ} {g : Columns} (f : Forest cost g) (w : Low g) (j :
       share r y = if near g j y then (if eqb (g .names r) (suc y) then g .cap r else 0) else 0
 
       each : (r : ℕ) → r < g .rows → (if later g j r then g .cap r else 0) ≤ sumTo (λ y. share r y) (g .rows)
-      each r l = if-elim (λ v. v ≤ sumTo (λ y. share r y) (g .rows)) _ _ _ (λ e. one-share (later-names r l e)) (λ e. omega arith)
+      each r l = if-cases (λ v. v ≤ sumTo (λ y. share r y) (g .rows)) _ (λ e. one-share (later-names r l e)) (λ e. omega arith)
         where
           one-share : (y : ℕ) × (g .names r ≡ suc y) × (near g j y ≡ true) → g .cap r ≤ sumTo (λ y. share r y) (g .rows)
-          one-share (y, e, q) = omega (arith, sum-term (λ y. share r y) y (g .rows) (f .named r y l e .inside), if-true (near g j y) (if eqb (g .names r) (suc y) then g .cap r else 0) 0 q, if-true (eqb (g .names r) (suc y)) (g .cap r) 0 (eq-eqb _ _ e))
+          one-share (y, e, q) = omega (arith, sum-term (λ y. share r y) y (g .rows) (f .named r y l e .inside), if-true (if eqb (g .names r) (suc y) then g .cap r else 0) 0 q, if-true (g .cap r) 0 (eq-eqb _ _ e))
 
   sold-near : cost (g .transport j) * nearSold g j ≤ nearCap g j
   sold-near = rw (← sum-mul) (sum-le _ _ (g .rows) (λ y l. scaled (near g j y) _ _ _ (λ e. rw (sym (near-true g j y e .0)) (f .paid y l))))

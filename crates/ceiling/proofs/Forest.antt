@@ -10,7 +10,8 @@ use borrow.Author.Tests.{eqb-true, eq-eqb, ne-eqb}
 use Rattle.laws.specs.Choice.{if_then_else_}
 use Rattle.laws.specs.Range.{sumTo}
 use Rattle.laws.specs.Update.{upd}
-use Rattle.laws.proofs.Update.{at-or-off, upd-same, upd-other, upd-below, if-true, if-false}
+use Rattle.laws.proofs.Choice.{if-true, if-false}
+use Rattle.laws.proofs.Update.{at-or-off, upd-same, upd-other, upd-below}
 use Rattle.laws.proofs.Sum.{sum-if-zero, sum-change, sum-grow}
 use Rattle.ceiling.specs.Columns.{Columns, sold, namers}
 use Rattle.ceiling.specs.Steps.{Preempting, Picking, take, preempt, pick, drop}
@@ -34,7 +35,7 @@ pub record Forest (cost : ℕ → ℕ) (g : Columns) : Type 0 where
 pub named-sum : (names v v' : ℕ → ℕ) (x y rows : ℕ) → x < rows → names x ≡ 0 → ((i : ℕ) → i ≢ x → v' i ≡ v i) → (z : ℕ) → sumTo (λ r. if eqb (upd names x (suc y) r) (suc z) then v' r else 0) rows ≡ sumTo (λ r. if eqb (names r) (suc z) then v r else 0) rows + (if eqb (suc y) (suc z) then v' x else 0)
 named-sum names v v' x y rows l e h z =
     let c = sum-change (λ r. if eqb (names r) (suc z) then v r else 0) (λ r. if eqb (upd names x (suc y) r) (suc z) then v' r else 0) x rows l (λ i k o. rw (upd-other names x (suc y) i o, h i o)) in
-    let old = if-false (eqb (names x) (suc z)) (v x) 0 (ne-eqb (names x) (suc z) (omega arith)) in
+    let old = if-false (v x) 0 (ne-eqb (names x) (suc z) (omega arith)) in
     omega (arith, rw upd-same at c)
 
 module _ {cost : ℕ → ℕ} {g : Columns} (f : Forest cost g) where
@@ -47,7 +48,7 @@ module _ {cost : ℕ → ℕ} {g : Columns} (f : Forest cost g) where
   unpicked-unnamed x z r l e = let h = f .named r x l e .used in omega arith
 
   pub sold-take : (t k y : ℕ) → sold (take g t k) y ≡ sold g y
-  sold-take t k y = sum-grow _ _ (g .rows) (λ i l. simp upd-below) (if-false _ _ _ (simp upd-same (ne-eqb 0 (suc y) (omega arith))))
+  sold-take t k y = sum-grow _ _ (g .rows) (λ i l. simp upd-below) (if-false _ _ (simp upd-same (ne-eqb 0 (suc y) (omega arith))))
 
   -- nobody names the new row
   pub sold-take-new : (t k : ℕ) → sold (take g t k) (g .rows) ≡ 0
@@ -82,10 +83,10 @@ module _ {cost : ℕ → ℕ} {g : Columns} (f : Forest cost g) where
     sold-preempt z = named-sum (g .names) (g .cap) (upd (g .cap) x m) x y (g .rows) (p .inside) (p .unnaming) (λ i h. upd-other _ _ _ i h) z ∙ simp upd-same
 
     pub sold-preempt-own : sold (preempt g x y m) y ≡ sold g y + m
-    sold-preempt-own = rw (sold-preempt, if-true _ _ _ (eq-eqb (suc y) (suc y) refl))
+    sold-preempt-own = rw (sold-preempt, if-true _ _ (eq-eqb (suc y) (suc y) refl))
 
     pub sold-preempt-other : (z : ℕ) → z ≢ y → sold (preempt g x y m) z ≡ sold g z
-    sold-preempt-other z h = rw (sold-preempt, if-false _ _ _ (ne-eqb (suc y) (suc z) (λ e. h (sym (suc-inj e))))) (omega arith)
+    sold-preempt-other z h = rw (sold-preempt, if-false _ _ (ne-eqb (suc y) (suc z) (λ e. h (sym (suc-inj e))))) (omega arith)
 
     namers-preempt : namers (preempt g x y m) ≡ suc (namers g)
     namers-preempt =

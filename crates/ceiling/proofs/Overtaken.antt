@@ -10,7 +10,8 @@ use borrow.Author.Tests.{eqb-true, eq-eqb, ne-eqb}
 use Rattle.laws.specs.Choice.{if_then_else_}
 use Rattle.laws.specs.Chain.{alongChain}
 use Rattle.laws.specs.Update.{upd}
-use Rattle.laws.proofs.Update.{at-or-off, upd-same, upd-other, upd-below, upd-all, if-true, if-false}
+use Rattle.laws.proofs.Choice.{if-true, if-false}
+use Rattle.laws.proofs.Update.{at-or-off, upd-same, upd-other, upd-below, upd-all}
 use Rattle.laws.proofs.Sum.{sum-le, sum-add, sum-mul, sum-if-le, sum-if-zero, sum-change, sum-grow}
 use Rattle.ceiling.specs.Columns.{Columns, bought}
 use Rattle.ceiling.specs.Steps.{Preempting, overtake, take, preempt}
@@ -92,7 +93,7 @@ module _ {cost : ℕ → ℕ} {g : Columns} (f : Forest cost g) (o : Overtaken c
   }
     where
       bought-take : (y : ℕ) → bought (take g t k) ((take g t k) .over) y ≡ bought g (g .over) y
-      bought-take y = sum-grow _ _ (g .rows) (λ i l. simp upd-below) (if-false _ _ _ (simp upd-same (ne-eqb 0 (suc y) (omega arith))))
+      bought-take y = sum-grow _ _ (g .rows) (λ i l. simp upd-below) (if-false _ _ (simp upd-same (ne-eqb 0 (suc y) (omega arith))))
 
   pub overtaken-preempt : {x y m : ℕ} → Preempting cost g x y m → Overtaken cost (preempt g x y m) ((preempt g x y m) .over)
   overtaken-preempt {x} {y} {m} p = walk (forest-preempt f p) m (g .rows) (suc y) (g .over) start (λ z e. subst (λ z. (z < g .rows) × (g .over z + m ≤ bought (preempt g x y m) (g .over) z)) (suc-inj e) (p .other, room))
@@ -110,7 +111,7 @@ module _ {cost : ℕ → ℕ} {g : Columns} (f : Forest cost g) (o : Overtaken c
       }
 
       room : g .over y + m ≤ bought (preempt g x y m) (g .over) y
-      room = rw (bought-preempt, if-true _ _ _ (eq-eqb (suc y) (suc y) refl), upd-same) (omega (arith, o .sums y (p .other)))
+      room = rw (bought-preempt, if-true _ _ (eq-eqb (suc y) (suc y) refl), upd-same) (omega (arith, o .sums y (p .other)))
 
   -- nobody names x, so the walk meets the names as they were before
   pub over-preempt : {x y m : ℕ} → Preempting cost g x y m → (preempt g x y m) .over ≡ alongChain (g .names) (overtake m) (g .rows) (suc y) (g .over)

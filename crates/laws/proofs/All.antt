@@ -2,12 +2,13 @@
 use Prim.Native.Nat.{ℕ, zero, suc, _+_, _≤_, _<_}
 use mathlib.Core.Bool.{Bool, true, false, not, _&&_, _||_, false≢true}
 use mathlib.Core.Path.{_≡_, refl, sym, _∙_, ap, ap₂, subst}
-use mathlib.Core.Logic.{⊎-elim}
+use mathlib.Core.Logic.{_≢_, ⊎-elim}
 use native.Mathlib.Nat.{le-step, lt-suc-self, not-suc-le-zero, lt-of-lt-of-le, le-of-suc-le-suc, eq-or-lt-of-le}
 use native.Mathlib.Numerals.{add-one}
-use borrow.Author.Tests.{not-true, not-false}
+use native.Mathlib.Decide.{ℕ-discrete}
+use borrow.Author.Tests.{not-true}
 use Rattle.laws.specs.Range.{allTo, anyTo}
-use Rattle.laws.proofs.Choice.{true-not-false, false-of, true-of, bool-same, not-is-true, not-is-false, and-both, and-left, and-right, or-left, or-right, or-cases, or-neither, not-and, not-or}
+use Rattle.laws.proofs.Choice.{true-not-false, false-of, bool-same, not-is-true, and-both, and-left, and-right, or-left, or-right, or-cases, or-neither, not-and, not-or}
 
 -- what holds below n and at n holds below suc n
 pub below-suc {ℓ} : (P : ℕ → Type ℓ) (n : ℕ) → ((i : ℕ) → i < n → P i) → P n → (i : ℕ) → i < suc n → P i
@@ -98,3 +99,7 @@ module _ (p q : ℕ → Bool) where
 
   pub any-imp : (n : ℕ) → ((i : ℕ) → i < n → p i ≡ true → q i ≡ true) → anyTo p n ≡ true → anyTo q n ≡ true
   any-imp n h t = let w = any-witness p n t in any-of q n (w .0) (w .1) (h (w .0) (w .1) (w .2))
+
+  -- the tests agree but for one number
+  pub all-change : (n i : ℕ) → ((j : ℕ) → j < n → j ≢ i → p j ≡ q j) → q i ≡ true → allTo p n ≡ true → allTo q n ≡ true
+  all-change n i same t h = all-from q n λ j l. elim (ℕ-discrete j i) [ yes e ↦ rw e t | no ne ↦ sym (same j l ne) ∙ all-at p n h j l ]

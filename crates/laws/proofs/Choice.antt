@@ -1,6 +1,6 @@
 -- Laws of if, one and the Boolean operations.
 use Prim.Native.Nat.{ℕ, _+_, _≤_, _<_}
-use mathlib.Core.Bool.{Bool, true, false, not, _&&_, _||_, true≢false, false≢true}
+use mathlib.Core.Bool.{Bool, true, false, not, _&&_, _||_, true≢false}
 use mathlib.Core.Path.{_≡_, refl, sym, _∙_}
 use mathlib.Core.Logic.{_⊎_, inl, inr}
 use native.Mathlib.Omega.{arith}
@@ -134,7 +134,17 @@ module _ {ℓ} {A : Type ℓ} where
   if-parts true t f = t refl
   if-parts false t f = f refl
 
+pub if-le : (b c : Bool) (x y : ℕ) → (b ≡ true → (c ≡ true) × (x ≤ y)) → (if b then x else 0) ≤ (if c then y else 0)
+unfolding if_then_else_
+if-le true c x y h = rw (h refl .0) (h refl .1)
+if-le false c x y h = omega arith
+
 -- one
+
+pub one-within : (b : Bool) (k : ℕ) → (b ≡ true → 1 ≤ k) → one b ≤ k
+unfolding one
+one-within true k h = h refl
+one-within false k h = omega arith
 
 pub one-true : {b : Bool} → b ≡ true → one b ≡ 1
 unfolding one

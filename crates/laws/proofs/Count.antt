@@ -1,18 +1,18 @@
 -- Laws of countTo.
 use Prim.Native.Nat.{ℕ, zero, suc, _+_, _≤_, _<_}
 use mathlib.Core.Bool.{Bool, true, false, not, _&&_, _||_}
-use mathlib.Core.Path.{_≡_, refl, sym, _∙_, ap, ap₂, subst}
+use mathlib.Core.Path.{_≡_, refl, sym, _∙_, ap, ap₂}
 use mathlib.Core.Logic.{_≢_, ⊎-elim}
-use native.Mathlib.Nat.{le-step, lt-suc-self, not-suc-le-zero, le-refl, le-of-suc-le-suc, eq-or-lt-of-le}
+use native.Mathlib.Nat.{le-step, lt-suc-self, not-suc-le-zero, le-refl, le-of-suc-le-suc, eq-or-lt-of-le, add-zero, add-suc}
 use native.Mathlib.Numerals.{add-one}
 use native.Mathlib.Decide.{le-ind, decLt}
 use native.Mathlib.Omega.{arith}
 use lib.Dec.{ltb, eqb}
-use borrow.Author.Tests.{ltb-true, lt-ltb, eqb-true, eq-eqb, ne-eqb, not-true}
+use borrow.Author.Tests.{ltb-true, lt-ltb, eq-eqb, ne-eqb}
 use Rattle.laws.specs.Choice.{one}
 use Rattle.laws.specs.Range.{anyTo, countTo}
-use Rattle.laws.proofs.Choice.{true-not-false, false-of, true-of, case-bool, bool-same, not-is-true, not-is-false, and-both, and-left, and-right, and-left-false, and-right-false, one-true, one-false, one-le, one-zero, one-positive, one-le-one, one-not, one-split, one-or}
-use Rattle.laws.proofs.All.{below-suc, any-of, any-witness}
+use Rattle.laws.proofs.Choice.{true-not-false, false-of, true-of, case-bool, bool-same, not-is-true, not-is-false, and-both, and-left, and-right, and-left-false, and-right-false, one-true, one-false, one-le, one-le-one, one-not, one-split, one-or}
+use Rattle.laws.proofs.All.{any-of, any-witness}
 
 module _ (p : ℕ → Bool) where
   pub count-none : (n : ℕ) → ((i : ℕ) → i < n → p i ≡ false) → countTo p n ≡ 0
@@ -31,10 +31,10 @@ module _ (p : ℕ → Bool) where
       let o = one-true (h n (lt-suc-self n)) in
       omega arith
 
-  pub count-bound : (n : ℕ) → countTo p n ≤ n
+  pub count-le-bound : (n : ℕ) → countTo p n ≤ n
   unfolding countTo
-  count-bound zero = omega arith
-  count-bound (suc n) = omega (arith, count-bound n, one-le (p n))
+  count-le-bound zero = omega arith
+  count-le-bound (suc n) = omega (arith, count-le-bound n, one-le (p n))
 
   pub count-suc : (n : ℕ) → countTo p (suc n) ≡ countTo p n + one (p n)
   unfolding countTo
@@ -44,16 +44,28 @@ module _ (p : ℕ → Bool) where
   unfolding countTo
   count-step i = rw add-one
 
+  pub count-hit : (i : ℕ) → p i ≡ true → countTo p (i + 1) ≡ countTo p i + 1
+  count-hit i t = count-step i ∙ ap (λ k. countTo p i + k) (one-true t)
+
+  pub count-miss : (i : ℕ) → p i ≡ false → countTo p (i + 1) ≡ countTo p i
+  count-miss i f = omega (arith, count-step i, one-false f)
+
   -- a larger bound counts no less
   pub count-more : {m n : ℕ} → m ≤ n → countTo p m ≤ countTo p n
   unfolding countTo
   count-more {m} {n} h = le-ind (λ k. countTo p m ≤ countTo p k) (le-refl (countTo p m)) (λ k l r. omega arith) n h
 
+  -- the numbers below m, and the n from m up
+  pub count-plus : (m n : ℕ) → countTo p (m + n) ≡ countTo p m + countTo (λ i. p (m + i)) n
+  unfolding countTo
+  count-plus m zero = rw (add-zero m) (omega arith)
+  count-plus m (suc n) = rw add-suc (omega (arith, count-plus m n))
+
   pub count-zero-at : (n : ℕ) → countTo p n ≡ 0 → (i : ℕ) → i < n → p i ≡ false
   count-zero-at n z i l = false-of λ t. let o = one-true t in let m = count-more l in let s = count-suc i in omega arith
 
-  pub count-positive : (n i : ℕ) → i < n → p i ≡ true → 0 < countTo p n
-  count-positive n i l t = let o = one-true t in let m = count-more l in let s = count-suc i in omega arith
+  pub count-pos-of : (n i : ℕ) → i < n → p i ≡ true → 0 < countTo p n
+  count-pos-of n i l t = let o = one-true t in let m = count-more l in let s = count-suc i in omega arith
 
   pub count-witness : (n : ℕ) → 0 < countTo p n → (i : ℕ) × (i < n) × (p i ≡ true)
   unfolding countTo
@@ -67,7 +79,7 @@ module _ (p : ℕ → Bool) where
   pub count-any : (n : ℕ) → anyTo p n ≡ ltb 0 (countTo p n)
   count-any n =
       bool-same
-      (λ h. let w = any-witness p n h in lt-ltb 0 (countTo p n) (count-positive n (w .0) (w .1) (w .2)))
+      (λ h. let w = any-witness p n h in lt-ltb 0 (countTo p n) (count-pos-of n (w .0) (w .1) (w .2)))
       (λ h. let w = count-witness n (ltb-true 0 (countTo p n) h) in any-of p n (w .0) (w .1) (w .2))
 
   -- the numbers that pass and those that do not
@@ -121,15 +133,15 @@ module _ (p q : ℕ → Bool) where
   count-split (suc n) = omega (arith, count-split n, one-split (p n) (q n))
 
 -- p implies q, and q holds once more
-pub count-lt : (p q : ℕ → Bool) (n : ℕ) → ((i : ℕ) → i < n → p i ≡ true → q i ≡ true) → (i : ℕ) → i < n → p i ≡ false → q i ≡ true → countTo p n < countTo q n
-count-lt p q n h i l f t =
+pub count-lt-of : (p q : ℕ → Bool) (n : ℕ) → ((i : ℕ) → i < n → p i ≡ true → q i ≡ true) → (i : ℕ) → i < n → p i ≡ false → q i ≡ true → countTo p n < countTo q n
+count-lt-of p q n h i l f t =
     let s = count-split q p n in
     let a = count-le p (λ j. q j && p j) n (λ j k e. and-both (h j k e) e) in
-    let b = count-positive (λ j. q j && not (p j)) n i l (and-both t (not-is-true f)) in
+    let b = count-pos-of (λ j. q j && not (p j)) n i l (and-both t (not-is-true f)) in
     omega arith
 
 pub count-lt-bound : (p : ℕ → Bool) (n i : ℕ) → i < n → p i ≡ false → countTo p n < n
-count-lt-bound p n i l f = omega (arith, count-not p n, count-positive (λ j. not (p j)) n i l (not-is-true f))
+count-lt-bound p n i l f = omega (arith, count-not p n, count-pos-of (λ j. not (p j)) n i l (not-is-true f))
 
 -- the test holds everywhere if it holds n times
 pub count-full-at : (p : ℕ → Bool) (n : ℕ) → countTo p n ≡ n → (i : ℕ) → i < n → p i ≡ true

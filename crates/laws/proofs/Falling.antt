@@ -1,17 +1,17 @@
 -- Laws of neverFalling.
 use Prim.Native.Nat.{ℕ, suc, _≤_, _<_}
-use mathlib.Core.Bool.{Bool, true, false, not, _&&_}
-use mathlib.Core.Path.{_≡_, refl, sym, _∙_, ap}
-use mathlib.Core.Logic.{_⊎_, inl, inr, ⊎-elim}
+use mathlib.Core.Bool.{Bool, true}
+use mathlib.Core.Path.{_≡_, refl}
+use mathlib.Core.Logic.{inl, inr, ⊎-elim}
 use mathlib.Core.List.{List, [], _∷_, _++_}
-use native.Mathlib.Nat.{le-refl, le-trans}
-use lib.Dec.{eqb, leb}
+use native.Mathlib.Nat.{le-trans}
+use lib.Dec.{leb}
 use lib.ListN.{length, getD, drop}
 use borrow.Author.Tests.{leb-true, le-leb}
 use Rattle.laws.specs.Sequence.{keep, holds, everyIn, neverFalling, upTo, insertBefore}
 use Rattle.laws.specs.Order.{Before}
 use Rattle.laws.proofs.Choice.{true-not-false, and-both, and-left, and-right}
-use Rattle.laws.proofs.Sequence.{holds-head, holds-tail, holds-cases, every-at, every-from}
+use Rattle.laws.proofs.Sequence.{holds-cases, every-at, every-from}
 use Rattle.laws.proofs.Found.{up-to-rest, up-to-next}
 use Rattle.laws.proofs.Move.{insert-split}
 use Rattle.laws.proofs.Order.{before-left, before-right, before-append-left, before-append-right, before-across, before-append-cases, before-kept, before-getD}

@@ -1,10 +1,10 @@
 -- Laws of firstTo and chosenTo.
 use Prim.Native.Nat.{ℕ, zero, suc, _+_, _≤_, _<_}
 use mathlib.Core.Bool.{Bool, true, false}
-use mathlib.Core.Path.{_≡_, refl, sym, _∙_, ap, ap₂, subst}
+use mathlib.Core.Path.{_≡_, refl, sym, _∙_}
 use mathlib.Core.Logic.{⊎-elim}
-use mathlib.Core.List.{List, [], _∷_, _++_}
-use native.Mathlib.Nat.{le-step, lt-suc-self, not-suc-le-zero, le-refl, lt-of-le-of-lt, le-of-suc-le-suc, eq-or-lt-of-le, add-zero}
+use mathlib.Core.List.{[], _∷_, _++_}
+use native.Mathlib.Nat.{le-step, lt-suc-self, not-suc-le-zero, le-refl, lt-of-le-of-lt, eq-or-lt-of-le, add-zero}
 use native.Mathlib.Numerals.{add-one}
 use native.Mathlib.Decide.{decLt}
 use native.Mathlib.Omega.{arith}
@@ -57,6 +57,9 @@ module _ (p : ℕ → Bool) where
   pub first-some : (n i : ℕ) → p i ≡ true → firstTo p n ≤ i
   first-some n i t = elim (decLt i (firstTo p n)) [ yes l ↦ true-not-false t (first-before n i l) | no l ↦ omega arith ]
 
+  pub first-found : (n i : ℕ) → i < n → p i ≡ true → firstTo p n < n
+  first-found n i l t = lt-of-le-of-lt (first-some n i t) l
+
   pub first-none : (n : ℕ) → ((i : ℕ) → i < n → p i ≡ false) → firstTo p n ≡ n
   first-none n h =
       elim (decLt (firstTo p n) n) [
@@ -72,6 +75,10 @@ module _ (p : ℕ → Bool) where
         | no m ↦ omega arith
       ]
 
+  pub first-step : (i : ℕ) → firstTo p (i + 1) ≡ (if ltb (firstTo p i) i then firstTo p i else (if p i then i else suc i))
+  unfolding firstTo
+  first-step i = rw add-one
+
   -- a larger bound finds the same
   pub first-more : {m n : ℕ} → m ≤ n → firstTo p m < m → firstTo p n ≡ firstTo p m
   first-more {m} {n} h l = first-unique n (firstTo p m) (omega arith) (first-holds m l) (first-before m)
@@ -81,7 +88,7 @@ module _ (p : ℕ → Bool) where
   first-any n =
       bool-same
       (λ h. let l = ltb-true (firstTo p n) n h in any-of p n (firstTo p n) l (first-holds n l))
-      (λ h. let w = any-witness p n h in lt-ltb (firstTo p n) n (lt-of-le-of-lt (first-some n (w .0) (w .2)) (w .1)))
+      (λ h. let w = any-witness p n h in lt-ltb (firstTo p n) n (first-found n (w .0) (w .1) (w .2)))
 
   pub length-chosen : (n : ℕ) → length (chosenTo p n) ≡ countTo p n
   unfolding chosenTo countTo if_then_else_ one

@@ -1,16 +1,16 @@
 -- Laws of firstOf and upTo.
-use Prim.Native.Nat.{ℕ, zero, suc, _+_, _≤_, _<_}
-use mathlib.Core.Bool.{Bool, true, false, not, _&&_, _||_}
-use mathlib.Core.Path.{_≡_, refl, sym, _∙_, ap, ap₂, subst}
-use mathlib.Core.Logic.{_⊎_, inl, inr, _≢_, ⊎-elim}
+use Prim.Native.Nat.{ℕ, suc, _<_}
+use mathlib.Core.Bool.{Bool, true, false, not}
+use mathlib.Core.Path.{_≡_, refl, sym, _∙_, ap, subst}
+use mathlib.Core.Logic.{_⊎_, inl, inr, ⊎-elim}
 use mathlib.Core.List.{List, [], _∷_, _++_}
 use native.Mathlib.Omega.{arith}
 use lib.Dec.{eqb}
 use lib.ListN.{length, drop, length-drop}
 use borrow.Author.Tests.{eqb-true, eqb-false, ne-eqb, not-true}
-use Rattle.laws.specs.Choice.{if_then_else_, one}
+use Rattle.laws.specs.Choice.{if_then_else_}
 use Rattle.laws.specs.Sequence.{holds, firstOf, upTo, everyIn}
-use Rattle.laws.proofs.Choice.{true-not-false, case-bool, not-is-true, and-both, or-right, or-neither, if-true, if-false, eqb-self, eqb-sym}
+use Rattle.laws.proofs.Choice.{true-not-false, case-bool, not-is-true, and-both, or-neither, if-true, if-false, eqb-self, eqb-sym}
 use Rattle.laws.proofs.Sequence.{holds-head, holds-tail, holds-rest, holds-append-left, lacks-head, lacks-tail, every-at}
 
 -- what firstOf finds: an element that passes, or nothing passes

@@ -1,9 +1,13 @@
 pub mod All
+pub mod Chain
+pub mod ChainChange
 pub mod Choice
 pub mod Count
 pub mod Falling
 pub mod First
+pub mod Firsts
 pub mod Found
+pub mod Index
 pub mod Keep
 pub mod Move
 pub mod MoveOrder
@@ -11,6 +15,6 @@ pub mod Once
 pub mod Order
 pub mod Sequence
 pub mod Table
+pub mod Both
 pub mod Sum
 pub mod Update
-pub mod Both

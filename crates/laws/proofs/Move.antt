@@ -1,17 +1,17 @@
 -- Laws of insertBefore and moveBefore.
-use Prim.Native.Nat.{ℕ, zero, suc, _+_, _≤_, _<_}
-use mathlib.Core.Bool.{Bool, true, false, not, _&&_, _||_}
-use mathlib.Core.Path.{_≡_, refl, sym, _∙_, ap, ap₂, subst}
-use mathlib.Core.Logic.{_⊎_, inl, inr, _≢_, ⊎-elim}
+use Prim.Native.Nat.{ℕ, suc, _+_}
+use mathlib.Core.Bool.{Bool, true, false, not, _||_}
+use mathlib.Core.Path.{_≡_, refl, sym, _∙_, ap}
+use mathlib.Core.Logic.{_≢_, ⊎-elim}
 use mathlib.Core.List.{List, [], _∷_, _++_}
 use native.Mathlib.Omega.{arith}
 use native.Mathlib.Decide.{ℕ-discrete}
-use lib.Dec.{eqb, ltb}
+use lib.Dec.{eqb}
 use lib.ListN.{length, drop, length-append}
 use borrow.Author.Tests.{eqb-false, eq-eqb, ne-eqb}
 use Rattle.laws.specs.Choice.{if_then_else_, one}
 use Rattle.laws.specs.Sequence.{keep, holds, timesIn, everyIn, upTo, insertBefore, moveBefore}
-use Rattle.laws.proofs.Choice.{true-not-false, case-bool, bool-same, and-both, or-left, or-right, or-cases, one-true, one-false, eqb-self, if-true, if-false}
+use Rattle.laws.proofs.Choice.{true-not-false, case-bool, bool-same, or-left, or-right, or-cases, one-true, one-false, eqb-self, if-true, if-false}
 use Rattle.laws.proofs.Sequence.{holds-rest, holds-of-times, holds-same-times, times-append, times-cons, times-positive, lacks-head, lacks-tail, every-same-times}
 use Rattle.laws.proofs.Keep.{remove-times-self, remove-times-other, remove-holds, length-remove}
 use Rattle.laws.proofs.Found.{up-to-rest}

@@ -1,6 +1,6 @@
 -- The order in a list after insertBefore and moveBefore.
 use Prim.Native.Nat.{ℕ, _≤_}
-use mathlib.Core.Bool.{Bool, true, false, not, _||_}
+use mathlib.Core.Bool.{true, false, not}
 use mathlib.Core.Path.{_≡_, refl, sym, _∙_}
 use mathlib.Core.Logic.{_⊎_, inl, inr, _≢_, ⊎-elim}
 use mathlib.Core.List.{List, [], _∷_}
@@ -11,8 +11,8 @@ use borrow.Author.Tests.{ne-eqb}
 use Rattle.laws.specs.Sequence.{keep, holds, timesIn, insertBefore, moveBefore}
 use Rattle.laws.specs.Order.{Before}
 use Rattle.laws.proofs.Choice.{true-not-false, true-of, case-bool, not-is-true, or-left, or-right, eqb-self}
-use Rattle.laws.proofs.Sequence.{holds-head, holds-tail, holds-cases, holds-rest, lacks-head, lacks-tail, times-head-once, times-tail-le}
-use Rattle.laws.proofs.Keep.{times-keep-le, keep-in, remove-holds, remove-lacks}
+use Rattle.laws.proofs.Sequence.{holds-tail, holds-cases, holds-rest, lacks-head, lacks-tail, times-head-once, times-tail-le}
+use Rattle.laws.proofs.Keep.{times-keep-le, remove-holds, remove-lacks}
 use Rattle.laws.proofs.Move.{insert-here, insert-later, insert-none, holds-insert}
 use Rattle.laws.proofs.Order.{before-left, before-right, before-keep, before-kept}
 

@@ -1,23 +1,23 @@
 -- Laws of holdsEachOnce.
 use Prim.Native.Nat.{ℕ, zero, suc, _+_, _≤_, _<_}
 use mathlib.Core.Bool.{Bool, true, false, not, _&&_, and-true}
-use mathlib.Core.Path.{_≡_, refl, sym, _∙_, ap, ap₂, subst}
-use mathlib.Core.Logic.{_≢_, ⊎-elim}
+use mathlib.Core.Path.{_≡_, refl, sym, _∙_, ap}
+use mathlib.Core.Logic.{_≢_}
 use mathlib.Core.List.{List, [], _∷_, _++_}
 use native.Mathlib.Nat.{le-step, le-trans, lt-suc-self, not-suc-le-zero, lt-irrefl}
 use native.Mathlib.Omega.{arith}
 use native.Mathlib.Decide.{ℕ-discrete}
 use lib.Dec.{eqb, ltb}
-use lib.ListN.{length, getD}
-use borrow.Author.Tests.{eqb-true, eq-eqb, ne-eqb, ltb-true, lt-ltb, le-ltb}
+use lib.ListN.{length}
+use borrow.Author.Tests.{eqb-true, eq-eqb, ne-eqb, ltb-true, lt-ltb}
 use Rattle.laws.specs.Choice.{one}
 use Rattle.laws.specs.Range.{allTo, countTo, chosenTo}
-use Rattle.laws.specs.Sequence.{keep, holds, timesIn, everyIn, insertBefore, moveBefore, holdsEachOnce}
-use Rattle.laws.proofs.Choice.{true-not-false, false-of, case-bool, bool-same, not-is-true, not-is-false, and-both, and-left, and-right, and-left-false, and-right-false, one-true, one-false, one-le, one-positive, eqb-self}
+use Rattle.laws.specs.Sequence.{keep, holds, timesIn, everyIn, countIn, insertBefore, moveBefore, holdsEachOnce}
+use Rattle.laws.proofs.Choice.{true-not-false, false-of, case-bool, not-is-true, not-is-false, and-both, and-left, and-right, and-right-false, one-true, one-false, one-le, one-positive, eqb-self}
 use Rattle.laws.proofs.All.{below-suc, all-at, all-from}
 use Rattle.laws.proofs.First.{length-chosen, chosen-true, chosen-false, chosen-below, chosen-passes}
 use Rattle.laws.proofs.Sequence.{holds-of-times, holds-place, times-append, times-single, times-positive, times-zero, times-none, every-at, every-from}
-use Rattle.laws.proofs.Keep.{keep-in, keep-passes, times-keep-true, times-keep-le, remove-lacks, remove-times-other, length-remove}
+use Rattle.laws.proofs.Keep.{keep-in, keep-passes, times-keep-true, times-keep-le, length-keep, remove-lacks, remove-times-other, length-remove}
 use Rattle.laws.proofs.Move.{times-insert, times-move}
 
 pub record EachOnce (p : ℕ → Bool) (n : ℕ) (l : List ℕ) : Type 0 where
@@ -166,6 +166,10 @@ once-length p (suc n) l r =
           passes = λ x k. r .passes x (keep-in (λ z. not (eqb z n)) x l k);
           once = λ x k t. remove-times-other n x l (omega arith) ∙ r .once x (le-step k) t;
         }
+
+-- how many of its elements pass another test
+pub once-count : (p q : ℕ → Bool) (n : ℕ) (l : List ℕ) → EachOnce p n l → countIn q l ≡ countTo (λ x. p x && q x) n
+once-count p q n l r = sym (length-keep q l) ∙ once-length (λ x. p x && q x) n (keep q l) (once-keep q r)
 
 -- a list of different numbers below b
 pub distinct-length : (b : ℕ) (l : List ℕ) → ((x : ℕ) → timesIn x l ≤ 1) → ((x : ℕ) → holds x l ≡ true → x < b) → length l ≤ b

@@ -1,16 +1,15 @@
 -- Laws of Before.
-use Prim.Native.Nat.{ℕ, zero, suc, _+_, _≤_, _<_}
-use mathlib.Core.Bool.{Bool, true, false, not}
-use mathlib.Core.Path.{_≡_, refl, sym, _∙_, ap, subst}
+use Prim.Native.Nat.{ℕ, zero, suc, _≤_, _<_}
+use mathlib.Core.Bool.{Bool, true}
+use mathlib.Core.Path.{_≡_, refl, sym, _∙_}
 use mathlib.Core.Logic.{_⊎_, inl, inr, _≢_, ⊎-elim}
 use mathlib.Core.List.{List, [], _∷_, _++_}
 use native.Mathlib.Nat.{not-suc-le-zero, zero-lt-suc, le-of-suc-le-suc, suc-le-suc-iff}
-use native.Mathlib.Omega.{arith}
 use lib.Dec.{eqb}
 use lib.ListN.{length, getD}
 use borrow.Author.Tests.{eqb-true, eqb-false}
 use Rattle.laws.specs.Choice.{if_then_else_}
-use Rattle.laws.specs.Sequence.{keep, holds, timesIn, upTo}
+use Rattle.laws.specs.Sequence.{keep, holds, timesIn, firstOf, upTo}
 use Rattle.laws.specs.Order.{Before}
 use Rattle.laws.proofs.Choice.{true-not-false, case-bool}
 use Rattle.laws.proofs.Sequence.{holds-head, holds-tail, holds-cases, holds-rest, holds-getD, holds-place, holds-append-left, holds-append-right, holds-append-cases, times-head-once, times-tail-le}
@@ -120,6 +119,15 @@ module _ (x y : ℕ) where
   before-places (z ∷ l) d (inr b) =
       let w = before-places l d b in
       (suc (w .0), suc (w .1), suc-le-suc-iff .1 (w .2), suc-le-suc-iff .1 (w .3), w .4, w .5)
+
+-- what firstOf finds stands before all else that passes
+pub first-of-before : (p : ℕ → Bool) (x : ℕ) (l : List ℕ) (other : ℕ) → holds x l ≡ true → p x ≡ true → x ≢ firstOf p l other → Before (firstOf p l other) x l
+unfolding Before firstOf holds if_then_else_
+first-of-before p x [] other h t ne = true-not-false h refl
+first-of-before p x (z ∷ l) other h t ne =
+    case-bool (p z)
+    (λ s. rw s (inl (refl, holds-rest x z l (rw s at ne) h)))
+    (λ f. rw f (inr (first-of-before p x l other (holds-rest x z l (λ e. true-not-false t (rw e f)) h) t (rw f at ne))))
 
 pub before-getD : (l : List ℕ) (i j d : ℕ) → i < j → j < length l → Before (getD l i d) (getD l j d) l
 unfolding Before

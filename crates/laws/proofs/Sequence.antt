@@ -1,18 +1,18 @@
 -- Laws of holds, timesIn, everyIn, countIn and padded.
 use Prim.Native.Nat.{ℕ, zero, suc, _+_, _-_, _≤_, _<_}
-use mathlib.Core.Bool.{Bool, true, false, not, _&&_, _||_, and-assoc, or-assoc, or-comm}
-use mathlib.Core.Path.{_≡_, refl, sym, _∙_, ap, ap₂, subst}
-use mathlib.Core.Logic.{_⊎_, inl, inr, _≢_, ⊎-elim, ⊎-map}
-use mathlib.Core.List.{List, [], _∷_, _++_}
+use mathlib.Core.Bool.{Bool, true, false, _&&_, _||_, and-assoc, or-assoc}
+use mathlib.Core.Path.{_≡_, refl, sym, _∙_, ap, ap₂}
+use mathlib.Core.Logic.{_⊎_, inl, inr, _≢_, ⊎-elim}
+use mathlib.Core.List.{List, [], _∷_, _++_, append-assoc, append-nil}
 use native.Mathlib.Nat.{zero-lt-suc, not-suc-le-zero, suc-le-suc-iff, le-of-suc-le-suc, zero-add}
 use native.Mathlib.Omega.{arith}
 use lib.Dec.{eqb, ltb}
-use lib.ListN.{length, getD, take, replicate, length-append, length-replicate, List·getD-append, List·getD-eq-default}
-use lib.Seq.{take-append-seam}
+use lib.ListN.{length, getD, take, set, replicate, length-append, length-replicate, length-set}
+use lib.Seq.{take-append-seam, set-append-seam, set-append-left}
 use borrow.Author.Tests.{eqb-true, eqb-false, ltb-true, lt-ltb}
 use Rattle.laws.specs.Choice.{one}
 use Rattle.laws.specs.Sequence.{holds, timesIn, everyIn, countIn, padded}
-use Rattle.laws.proofs.Choice.{true-not-false, case-bool, bool-same, false-of, and-both, and-left, and-right, or-left, or-right, or-cases, or-neither, or-left-false, or-right-false, one-true, one-false, one-le, one-le-one, eqb-self}
+use Rattle.laws.proofs.Choice.{true-not-false, case-bool, bool-same, false-of, and-both, and-left, and-right, or-left, or-right, or-cases, or-left-false, or-right-false, one-true, one-false, one-le, one-le-one, eqb-self}
 
 -- x occurs
 
@@ -128,11 +128,9 @@ holds-place x (y ∷ l) d h =
 pub times-distinct : (l : List ℕ) (i j d : ℕ) → ((x : ℕ) → timesIn x l ≤ 1) → i < j → j < length l → getD l i d ≢ getD l j d
 times-distinct [] i j d h k m e = not-suc-le-zero m
 times-distinct (x ∷ l) i zero d h k m e = not-suc-le-zero k
-times-distinct (x ∷ l) zero (suc j) d h k m e =
-    let t = times-positive x l (rw e (holds-getD l j d (le-of-suc-le-suc m))) in
-    omega (arith, h x, times-cons x x l, one-true (eqb-self x))
+times-distinct (x ∷ l) zero (suc j) d h k m e = times-head-once x l (h x) (rw e (holds-getD l j d (le-of-suc-le-suc m)))
 times-distinct (x ∷ l) (suc i) (suc j) d h k m e =
-    times-distinct l i j d (λ z. omega (arith, h z, times-cons z x l)) (le-of-suc-le-suc k) (le-of-suc-le-suc m) e
+    times-distinct l i j d (λ z. times-tail-le z x l (h z)) (le-of-suc-le-suc k) (le-of-suc-le-suc m) e
 
 -- every element passes
 
@@ -223,3 +221,22 @@ getD-zeros (x ∷ l) k (suc i) = getD-zeros l k i
 pub getD-padded : (n : ℕ) (l : List ℕ) (i : ℕ) → getD (padded n l) i 0 ≡ getD l i 0
 unfolding padded
 getD-padded n l i = getD-zeros l (n - length l) i
+
+pub padded-full : (l : List ℕ) → padded (length l) l ≡ l
+unfolding padded
+padded-full l =
+    let e : length l - length l ≡ 0 = omega arith in
+    rw (e, append-nil)
+
+pub set-padded : (n : ℕ) (l : List ℕ) (i x : ℕ) → i < length l → set (padded n l) i x ≡ padded n (set l i x)
+unfolding padded
+set-padded n l i x h = rw length-set (set-append-left l (replicate (n - length l) 0) i x h)
+
+-- one more at the end
+pub set-padded-end : (n : ℕ) (l : List ℕ) (x : ℕ) → length l < n → set (padded n l) (length l) x ≡ padded n (l ++ (x ∷ []))
+unfolding padded
+set-padded-end n l x h =
+    let k = n - suc (length l) in
+    let e : n - length l ≡ suc k = omega arith in
+    let f : n - length (l ++ (x ∷ [])) ≡ k = rw length-append (omega arith) in
+    rw (e, f, append-assoc) (set-append-seam l 0 (replicate k 0) x)

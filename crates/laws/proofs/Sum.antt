@@ -11,7 +11,8 @@ use borrow.Author.Tests.{le-ltb}
 use Rattle.laws.specs.Choice.{if_then_else_, one}
 use Rattle.laws.specs.Range.{sumTo}
 use Rattle.laws.specs.Update.{upd}
-use Rattle.laws.proofs.Update.{if-false, if-elim, if-le, upd-same, upd-other, upd-all}
+use Rattle.laws.proofs.Choice.{if-false, if-cases, if-le}
+use Rattle.laws.proofs.Update.{upd-same, upd-other, upd-all}
 
 pub sum-le : (f g : ℕ → ℕ) (n : ℕ) → ((i : ℕ) → i < n → f i ≤ g i) → sumTo f n ≤ sumTo g n
 unfolding sumTo
@@ -78,7 +79,7 @@ pub sum-if-le : (p q : ℕ → Bool) (f g : ℕ → ℕ) (n : ℕ) → ((i : ℕ
 sum-if-le p q f g n h = sum-le _ _ n (λ i l. if-le (p i) (q i) (f i) (g i) (h i l))
 
 pub sum-if-zero : (p : ℕ → Bool) (f : ℕ → ℕ) (n : ℕ) → ((i : ℕ) → i < n → p i ≡ true → f i ≡ 0) → sumTo (λ i. if p i then f i else 0) n ≡ 0
-sum-if-zero p f n h = sum-zero _ n (λ i l. if-elim (λ v. v ≡ 0) (p i) (f i) 0 (h i l) (λ e. refl))
+sum-if-zero p f n h = sum-zero _ n (λ i l. if-cases (λ v. v ≡ 0) (p i) {x = f i} {y = 0} (h i l) (λ e. refl))
 
 -- one test for all parts
 pub sum-if-all : (b : Bool) (f : ℕ → ℕ) (n : ℕ) → sumTo (λ i. if b then f i else 0) n ≡ (if b then sumTo f n else 0)
@@ -90,7 +91,7 @@ sum-if-all false f n = sum-zero _ n (λ i l. refl)
 pub sum-below : (f : ℕ → ℕ) (m n : ℕ) → sumTo (λ i. if ltb i m then f i else 0) n ≤ sumTo f m
 unfolding sumTo
 sum-below f m zero = omega arith
-sum-below f m (suc n) = elim (decLt n m) [ yes l ↦ le-trans (sum-le _ f (suc n) (λ i k. if-elim (λ v. v ≤ f i) (ltb i m) (f i) 0 (λ e. le-refl (f i)) (λ e. omega arith))) (sum-more f (suc n) m l) | no h ↦ omega (arith, sum-below f m n, if-false (ltb n m) (f n) 0 (le-ltb n m (omega arith))) ]
+sum-below f m (suc n) = elim (decLt n m) [ yes l ↦ le-trans (sum-le _ f (suc n) (λ i k. if-cases (λ v. v ≤ f i) (ltb i m) {x = f i} {y = 0} (λ e. le-refl (f i)) (λ e. omega arith))) (sum-more f (suc n) m l) | no h ↦ omega (arith, sum-below f m n, if-false (f n) 0 (le-ltb n m (omega arith))) ]
 
 -- one part grows by 1, and counts where its test holds
 pub sum-if-suc : (p : ℕ → Bool) (f : ℕ → ℕ) (j n : ℕ) → j < n → sumTo (λ i. if p i then upd f j (suc (f j)) i else 0) n ≡ sumTo (λ i. if p i then f i else 0) n + one (p j)

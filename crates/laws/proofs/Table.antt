@@ -1,15 +1,14 @@
 -- Laws of tableTo and foldTo.
 use Prim.Native.Nat.{ℕ, zero, suc, _+_, _≤_, _<_}
-use mathlib.Core.Bool.{Bool, true, false}
-use mathlib.Core.Path.{_≡_, refl, sym, _∙_, ap, ap₂, subst}
+use mathlib.Core.Path.{_≡_, refl, sym, _∙_}
 use mathlib.Core.List.{List, [], _∷_, _++_, append-assoc, append-nil, map, map-append}
 use native.Mathlib.Nat.{le-step, lt-suc-self, not-suc-le-zero, le-dest}
 use native.Mathlib.Numerals.{add-one}
-use native.Mathlib.Decide.{ℕ-discrete, decLt}
+use native.Mathlib.Decide.{ℕ-discrete}
 use native.Mathlib.Omega.{arith}
 use lib.Dec.{eqb}
 use lib.ListN.{length, getD, set, drop, length-append, length-drop, length-set, drop-of-length-le, List·getD-append}
-use lib.Seq.{getD-at, set-at, drop-cons, drop-length, getD-drop, getD-append-add, getD-set-same, getD-set-other, ext-getD}
+use lib.Seq.{getD-at, set-at, drop-cons, getD-drop, getD-append-add, getD-set-same, getD-set-other, ext-getD}
 use borrow.Author.Tests.{eq-eqb, ne-eqb}
 use Rattle.laws.specs.Choice.{if_then_else_}
 use Rattle.laws.specs.Range.{tableTo, foldTo}
@@ -44,9 +43,12 @@ module _ {ℓ} {A : Type ℓ} (f : ℕ → A) where
       let w = le-dest h in
       rw (← w .1) (rw length-table at (getD-append-add (tableTo f i) (drop i l) (w .0) d) ∙ getD-drop i l (w .0) d)
 
-  pub table-fill : (l : List A) (i : ℕ) → i < length l → set (tableTo f i ++ drop i l) i (f i) ≡ tableTo f (suc i) ++ drop (suc i) l
+  pub table-drop : (l : List A) (i : ℕ) → i < length l → set (tableTo f i ++ drop i l) i (f i) ≡ tableTo f (suc i) ++ drop (suc i) l
   unfolding tableTo
-  table-fill l i h = rw (drop-cons l i (f i), append-assoc) (set-at (tableTo f i) (getD l i (f i)) (drop (suc i) l) (f i) i (length-table i))
+  table-drop l i h = rw (drop-cons l i (f i), append-assoc) (set-at (tableTo f i) (getD l i (f i)) (drop (suc i) l) (f i) i (length-table i))
+
+  pub table-drop-step : (l : List A) (i : ℕ) → i < length l → set (tableTo f i ++ drop i l) i (f i) ≡ tableTo f (i + 1) ++ drop (i + 1) l
+  table-drop-step l i h = rw add-one (table-drop l i h)
 
   pub table-full : (l : List A) (n : ℕ) → length l ≤ n → tableTo f n ++ drop n l ≡ tableTo f n
   table-full l n h = rw (drop-of-length-le l {i = n}, append-nil)

@@ -1,3 +1,3 @@
-pub mod Examples
 pub mod Shape
 pub mod Soundness
+pub mod Refused

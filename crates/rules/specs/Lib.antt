@@ -12,6 +12,7 @@ pub mod Reporting
 pub mod Board
 pub mod Refusals
 pub mod Calls
+pub mod Lent
 pub mod Answers
 pub mod Tally
 pub mod Run
