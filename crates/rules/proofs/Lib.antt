@@ -1,3 +1,4 @@
+pub mod Examples
+pub mod Refused
 pub mod Shape
 pub mod Soundness
-pub mod Refused
