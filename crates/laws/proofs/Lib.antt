@@ -18,3 +18,4 @@ pub mod Table
 pub mod Both
 pub mod Sum
 pub mod Update
+pub mod Onto
