@@ -19,3 +19,6 @@ pub mod Both
 pub mod Sum
 pub mod Update
 pub mod Onto
+pub mod MoreTests
+pub mod MoreChain
+pub mod MoreColumns
