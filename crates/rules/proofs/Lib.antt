@@ -14,4 +14,8 @@ pub mod Rows
 pub mod Shape
 pub mod Soundness
 pub mod Turns
+pub mod Sim
+pub mod SimFresh
+pub mod SimRows
+pub mod SimPick
 pub mod Examples
