@@ -96,6 +96,16 @@ module _ {ℓ} {A : Type ℓ} (next : ℕ → ℕ) (step : ℕ → A → A) wher
   along-keeps ok P closed keeps (suc n) (suc x) a o h =
       along-keeps ok P closed keeps n (next x) (step x a) (λ y. closed x y (o x refl)) (keeps x a (o x refl) h)
 
+-- two walks along one chain keep a relation that each pair of steps keeps
+pub along-related {ℓ κ μ} : {A : Type ℓ} {B : Type κ} (R : A → B → Type μ) (next : ℕ → ℕ) (step : ℕ → A → A) (other : ℕ → B → B) (ok : ℕ → Type 0)
+    → ((x y : ℕ) → ok x → next x ≡ suc y → ok y) → ((x : ℕ) (a : A) (b : B) → ok x → R a b → R (step x a) (other x b))
+    → (n k : ℕ) (a : A) (b : B) → ((x : ℕ) → k ≡ suc x → ok x) → R a b → R (alongChain next step n k a) (alongChain next other n k b)
+unfolding alongChain
+along-related R next step other ok closed keeps zero k a b o h = h
+along-related R next step other ok closed keeps (suc n) zero a b o h = h
+along-related R next step other ok closed keeps (suc n) (suc x) a b o h =
+    along-related R next step other ok closed keeps n (next x) (step x a) (other x b) (λ y. closed x y (o x refl)) (keeps x a b (o x refl) h)
+
 -- the first along the chain
 
 module _ (p : ℕ → Bool) (next : ℕ → ℕ) where

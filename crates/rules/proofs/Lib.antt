@@ -18,4 +18,7 @@ pub mod Sim
 pub mod SimFresh
 pub mod SimRows
 pub mod SimPick
+pub mod SimChain
+pub mod SimTally
+pub mod SimPreempt
 pub mod Examples

@@ -27,13 +27,13 @@ use Rattle.rules.proofs.Rows.{row-of-is}
 use Rattle.rules.proofs.EntryFacts.{present-below}
 use Rattle.rules.proofs.HandedOut.{CanHandOut, handed-waits-own, handed-waits-other, handed-picked-own, handed-picked-other}
 use Rattle.rules.proofs.Sim.{presentRow, jobLink, Ahead, RowIs, JobIs, Sim}
-use Rattle.rules.proofs.SimRows.{rows-apart, present-of, same-row-of, same-link, same-present, row-same, row-other, row-jobs, near-test}
+use Rattle.rules.proofs.SimRows.{rows-apart, present-of, same-row-of, same-link, same-present, row-same, row-other, row-field, near-test}
 
 -- what noting writes
 module _ (rows : List Row) (i picks total : ℕ) where
   pub noting-jobs : (k : ℕ) → rowAt (noting i picks total rows) k .job ≡ rowAt rows k .job
   unfolding noting
-  noting-jobs = row-jobs rows i _ refl
+  noting-jobs = row-field rows i _ (λ r. r .job) refl
 
   pub noting-length : length (noting i picks total rows) ≡ length rows
   unfolding noting

@@ -71,11 +71,12 @@ module _ (rows : List Row) (i : ℕ) (new : Row) where
   pub row-other : (k : ℕ) → k ≢ i → rowAt (set rows i new) k ≡ rowAt rows k
   row-other k ne = getD-set-other rows i k new noRow ne
 
-  pub row-jobs : new .job ≡ rowAt rows i .job → (k : ℕ) → rowAt (set rows i new) k .job ≡ rowAt rows k .job
-  row-jobs e k =
+  -- what the new row has as the old one had it is as it was everywhere
+  pub row-field : (f : Row → ℕ) → f new ≡ f (rowAt rows i) → (k : ℕ) → f (rowAt (set rows i new) k) ≡ f (rowAt rows k)
+  row-field f e k =
       elim (ℕ-discrete k i) [
-        | yes q ↦ rw q (elim (decLt i (length rows)) [ yes l ↦ ap (λ r. r .job) (row-same l) ∙ e | no h ↦ ap (λ l. rowAt l i .job) (set-out rows i new (omega arith)) ])
-        | no ne ↦ ap (λ r. r .job) (row-other k ne)
+        | yes q ↦ rw q (elim (decLt i (length rows)) [ yes l ↦ ap f (row-same l) ∙ e | no h ↦ ap (λ l. f (rowAt l i)) (set-out rows i new (omega arith)) ])
+        | no ne ↦ ap f (row-other k ne)
       ]
 
 -- near reads the test pointwise
