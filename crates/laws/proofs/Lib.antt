@@ -19,6 +19,8 @@ pub mod Both
 pub mod Sum
 pub mod Update
 pub mod Onto
-pub mod MoreTests
-pub mod MoreChain
-pub mod MoreColumns
+pub mod Tests
+pub mod ChainAmong
+pub mod Columns
+pub mod ChosenTimes
+pub mod ChainSkip

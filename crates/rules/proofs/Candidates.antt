@@ -14,7 +14,7 @@ use Rattle.laws.proofs.All.{below-suc}
 use Rattle.laws.specs.Sequence.{holds}
 use Rattle.laws.proofs.Sequence.{holds-place}
 use Rattle.laws.proofs.Table.{fold-keeps}
-use Rattle.laws.proofs.MoreTests.{and-6, fraction-less}
+use Rattle.laws.proofs.Tests.{and-6, fraction-less}
 use Rattle.rules.specs.declared.State.{State}
 use Rattle.rules.specs.State.{at, settingsOf, listOf, hasPreempted, waitingOf}
 use Rattle.rules.specs.Picking.{hasEligible}

@@ -6,7 +6,7 @@ use mathlib.Core.Logic.{_⊎_, inl, inr, ⊎-elim}
 use lib.Dec.{eqb, leb}
 use borrow.Author.Tests.{leb-true, eqb-true}
 use Rattle.laws.proofs.Choice.{and-left, and-right, or-cases}
-use Rattle.laws.proofs.MoreTests.{and-5, and-6}
+use Rattle.laws.proofs.Tests.{and-5, and-6}
 use Rattle.rules.specs.declared.Settings.{Settings}
 use Rattle.rules.specs.Setup.{within, feedbackInRange, slotsInRange, windowsInRange, settingsInRange}
 

@@ -1,0 +1,82 @@
+-- A report keeps the shape and the soundness of a state; and what it does to jobs, lists and parents.
+use Prim.Native.Nat.{ℕ, _≤_, _<_}
+use mathlib.Core.Path.{_≡_, refl, ap}
+use mathlib.Core.Logic.{_≢_, _⊎_, inl, inr, ⊎-elim}
+use mathlib.Core.Bool.{Bool, true, not}
+use native.Mathlib.Omega.{arith}
+use Rattle.laws.specs.Range.{anyTo}
+use Rattle.rules.specs.declared.Settings.{Settings}
+use Rattle.rules.specs.declared.Health.{Health}
+use Rattle.rules.specs.declared.Health.the-variants.{Live, Dead}
+use Rattle.rules.specs.declared.Outcome.{Outcome}
+use Rattle.rules.specs.declared.Outcome.the-variants.{Success, Failure}
+use Rattle.rules.specs.declared.State.{State}
+use Rattle.rules.specs.Sizes.{maxJobs, maxEntries, lastSecond}
+use Rattle.rules.specs.State.{at, healthOf, isLive, settingsFor, transportOf, isBusy, isPresent, destinationOf, usedOf}
+use Rattle.rules.specs.Setup.{settingsInRange}
+use Rattle.rules.specs.SoundFacts.{Sound}
+use Rattle.rules.specs.Windows.{afterSuccess, afterFailure}
+use Rattle.rules.specs.Reporting.{reportedHealth, dies, settled, reportedAt, reporting}
+use Rattle.rules.proofs.Shape.{Shaped}
+use Rattle.rules.proofs.WindowLaws.{live-success, live-failure}
+use Rattle.rules.proofs.SettledCounts.{reported-entry, reported-transport}
+use Rattle.rules.proofs.KeptSettling.{Stepped, shaped-settled, settled-others, almost-settled}
+use Rattle.rules.proofs.KeptDeparting.{shaped-departed, sound-departed}
+
+-- The destination's step.
+
+success-lives : (g : Settings) (busy : ℕ) (h : Health) (end : ℕ) → afterSuccess g busy h ≡ Dead end → ⊥
+unfolding afterSuccess
+success-lives g busy (Live u) end e = let z : _≡_ {A = ℕ} 0 1 = cc in omega arith
+success-lives g busy (Dead x) end e = let z : _≡_ {A = ℕ} 0 1 = cc in omega arith
+
+failure-dies : (g : Settings) (now : ℕ) (h : Health) (end : ℕ) → afterFailure g now h ≡ Dead end
+    → (dies h (afterFailure g now h) ≡ true) ⊎ ((x : ℕ) × (h ≡ Dead x))
+unfolding afterFailure dies isLive
+failure-dies g now (Live u) end e = inl (ap (λ x. not (isLive x)) e)
+failure-dies g now (Dead x) end e = inr (x, refl)
+
+module _ (w : State) (now d : ℕ) (sound : Sound w) (inside : d < w .setup .destinations) where
+  range : settingsInRange (settingsFor w d) ≡ true
+  range = sound .setup .settings (transportOf w d) (sound .setup .home d inside)
+
+  pub stepped-of : (outcome : Outcome) → Stepped w d (reportedHealth w now d outcome) (dies (healthOf w d) (reportedHealth w now d outcome))
+  unfolding reportedHealth
+  stepped-of Success =
+      let h = sound .destinations d inside in
+      record {
+        live = λ u. live-success (settingsFor w d) (at (w .busy .destination) d) (healthOf w d) u range (h .live);
+        dead = λ end e. absurd (success-lives (settingsFor w d) (at (w .busy .destination) d) (healthOf w d) end e);
+      }
+  stepped-of Failure =
+      let h = sound .destinations d inside in
+      record {
+        live = λ u. live-failure (settingsFor w d) now (healthOf w d) u range (h .live);
+        dead = λ end e. ⊎-elim inl (λ r. inr (h .dead (r .0) (r .1))) (failure-dies (settingsFor w d) now (healthOf w d) end e);
+      }
+
+module _ (w : State) (e : ℕ) (health : Health) (died : Bool) (shaped : Shaped w) (sound : Sound w) (inside : e < maxEntries) (busy : isBusy w e ≡ true) where
+  home : transportOf w (destinationOf w e) < (settled w e (destinationOf w e) health died) .setup .transports
+  unfolding settled
+  home = reported-transport w e health died shaped sound inside busy
+
+  pub others-stay : (j : ℕ) → j < maxJobs → isPresent (settled w e (destinationOf w e) health died) j ≡ true → at ((settled w e (destinationOf w e) health died) .jobs .transport) j ≢ transportOf w (destinationOf w e) → anyTo (usedOf (settled w e (destinationOf w e) health died) j) maxEntries ≡ true
+  unfolding settled
+  others-stay = settled-others w e health died shaped sound inside busy
+
+  pub kept-reported-at : Stepped w (destinationOf w e) health died → Shaped (reportedAt w e (destinationOf w e) health died .state) × Sound (reportedAt w e (destinationOf w e) health died .state)
+  unfolding reportedAt
+  kept-reported-at step =
+      let a = almost-settled w e health died shaped sound inside busy step in
+      let s = shaped-settled w e health died shaped sound inside busy in
+      (shaped-departed (settled w e (destinationOf w e) health died) (transportOf w (destinationOf w e)) s a home others-stay, sound-departed (settled w e (destinationOf w e) health died) (transportOf w (destinationOf w e)) s a home others-stay)
+
+pub kept-reporting : (w : State) (now e : ℕ) (outcome : Outcome) → Shaped w → Sound w → e < maxEntries → isBusy w e ≡ true → now ≤ lastSecond
+    → Shaped (reporting w now e (destinationOf w e) outcome .state) × Sound (reporting w now e (destinationOf w e) outcome .state)
+unfolding reporting
+kept-reporting w now e outcome shaped sound inside busy late =
+    let d = destinationOf w e in
+    let health = reportedHealth w now d outcome in
+    let died = dies (healthOf w d) health in
+    kept-reported-at w e health died shaped sound inside busy
+    (stepped-of w now d sound (reported-entry w e health died shaped sound inside busy .destination) outcome)

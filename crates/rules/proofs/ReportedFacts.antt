@@ -1,0 +1,211 @@
+-- What a report does to jobs, lists and parents, in the terms of the state before it.
+use Prim.Native.Nat.{ℕ, _+_, _-_, _≤_, _<_}
+use mathlib.Core.Path.{_≡_, refl, sym, _∙_, ap, fun-ext}
+use mathlib.Core.Logic.{_≢_}
+use mathlib.Core.Bool.{Bool, true, false, _&&_}
+use mathlib.Core.List.{map}
+use native.Mathlib.Omega.{arith}
+use lib.Dec.{eqb}
+use Rattle.laws.specs.Chain.{firstAlong}
+use Rattle.laws.specs.Sequence.{keep, timesIn}
+use Rattle.laws.proofs.Count.{count-none}
+use Rattle.laws.proofs.Keep.{keep-same}
+use Rattle.laws.proofs.ChosenTimes.{times-chosen}
+use Rattle.rules.specs.declared.Health.{Health}
+use Rattle.rules.specs.declared.Outcome.{Outcome}
+use Rattle.rules.specs.declared.State.{State}
+use Rattle.rules.specs.Sizes.{maxTransports, maxJobs, maxEntries}
+use Rattle.rules.specs.State.{at, healthOf, transportOf, listOf, queueOf, isBusy, isPresent, jobOf, destinationOf, waitsOf, waitingOf, parentOf}
+use Rattle.rules.specs.SoundFacts.{Sound}
+use Rattle.rules.specs.Reporting.{reportedHealth, dies, isPutOff, putOffEntries, putOffOf, settled, stays, departed, reportedAt, reporting}
+use Rattle.rules.proofs.Shape.{Shaped}
+use Rattle.rules.proofs.Settled.{settled-waiting}
+use Rattle.rules.proofs.SettledCounts.{reported-entry, reported-transport}
+use Rattle.rules.proofs.KeptSettling.{AlmostSound, shaped-settled, settled-dropped, settled-health, settled-health-other, almost-settled}
+use Rattle.rules.proofs.Departed.{stays-present, leaves-waiting, departed-present, departed-parent-stays, departed-parent-leaves}
+use Rattle.rules.proofs.Departed.{departed-arrivals, departed-queues}
+use Rattle.rules.proofs.KeptReporting.{stepped-of, others-stay}
+
+-- the destination's health after a report of entry e, and whether it died
+abbrev pub healthBy : State → ℕ → ℕ → Outcome → Health
+healthBy w now e outcome = reportedHealth w now (destinationOf w e) outcome
+
+abbrev pub diedBy : State → ℕ → ℕ → Outcome → Bool
+diedBy w now e outcome = dies (healthOf w (destinationOf w e)) (healthBy w now e outcome)
+
+-- the state before anybody leaves
+abbrev pub settledBy : State → ℕ → ℕ → Outcome → State
+settledBy w now e outcome = settled w e (destinationOf w e) (healthBy w now e outcome) (diedBy w now e outcome)
+
+-- the state after the report
+abbrev pub reportedBy : State → ℕ → ℕ → Outcome → State
+reportedBy w now e outcome = reporting w now e (destinationOf w e) outcome .state
+
+-- what a report leaves alone
+pub record ReportLeaves (w r : State) : Type 0 where
+  pub setup : r .setup ≡ w .setup
+  pub clock : r .clock ≡ w .clock
+  pub ticket : r .ticket ≡ w .ticket
+  pub turn : r .turn ≡ w .turn
+  pub transport : r .jobs .transport ≡ w .jobs .transport
+  pub n : r .jobs .n ≡ w .jobs .n
+  pub picked : r .jobs .picked ≡ w .jobs .picked
+  pub sold : r .jobs .sold ≡ w .jobs .sold
+  pub preempted : r .jobs .preempted ≡ w .jobs .preempted
+  pub arrival : r .jobs .arrival ≡ w .jobs .arrival
+  pub overtakers : r .jobs .overtakers ≡ w .jobs .overtakers
+  pub jobTurn : r .jobs .turn ≡ w .jobs .turn
+  pub places : r .jobs .places ≡ w .jobs .places
+  pub order : r .jobs .order ≡ w .jobs .order
+  pub job : r .entries .job ≡ w .entries .job
+  pub destination : r .entries .destination ≡ w .entries .destination
+  pub entryTicket : r .entries .ticket ≡ w .entries .ticket
+
+pub report-leaves : (w : State) (now e : ℕ) (outcome : Outcome) → ReportLeaves w (reportedBy w now e outcome)
+unfolding reporting reportedAt departed settled
+report-leaves w now e outcome =
+    record {
+      setup = refl;
+      clock = refl;
+      ticket = refl;
+      turn = refl;
+      transport = refl;
+      n = refl;
+      picked = refl;
+      sold = refl;
+      preempted = refl;
+      arrival = refl;
+      overtakers = refl;
+      jobTurn = refl;
+      places = refl;
+      order = refl;
+      job = refl;
+      destination = refl;
+      entryTicket = refl;
+    }
+
+-- the state after is the settled one without those that leave
+pub reported-is : (w : State) (now e : ℕ) (outcome : Outcome) → (reportedBy w now e outcome) ≡ departed (settledBy w now e outcome) (transportOf w (destinationOf w e))
+unfolding reporting reportedAt
+reported-is w now e outcome = refl
+
+reported-waiting-settled : (w : State) (now e : ℕ) (outcome : Outcome) (j : ℕ) → waitingOf (reportedBy w now e outcome) j ≡ waitingOf (settledBy w now e outcome) j
+unfolding reporting reportedAt departed waitingOf waitsOf
+reported-waiting-settled w now e outcome j = refl
+
+module _ (w : State) (now e : ℕ) (outcome : Outcome) (shaped : Shaped w) (sound : Sound w) (inside : e < maxEntries) (busy : isBusy w e ≡ true) where
+  almost : AlmostSound (settledBy w now e outcome)
+  almost =
+      almost-settled w e (healthBy w now e outcome) (diedBy w now e outcome) shaped sound inside busy
+      (stepped-of w now (destinationOf w e) sound (reported-entry w e (healthBy w now e outcome) (diedBy w now e outcome) shaped sound inside busy .destination) outcome)
+
+  settledShape : Shaped (settledBy w now e outcome)
+  settledShape = shaped-settled w e (healthBy w now e outcome) (diedBy w now e outcome) shaped sound inside busy
+
+  -- Waiting entries.
+
+  -- what waited is put off or waits still
+  pub reported-waiting : (j : ℕ) → waitingOf w j ≡ putOffOf w (diedBy w now e outcome) (destinationOf w e) j + waitingOf (reportedBy w now e outcome) j
+  reported-waiting j =
+      settled-waiting w e (healthBy w now e outcome) (diedBy w now e outcome) shaped sound inside busy j ∙ ap (λ k. putOffOf w (diedBy w now e outcome) (destinationOf w e) j + k) (sym (reported-waiting-settled w now e outcome j))
+
+  pub reported-waiting-le : (j : ℕ) → waitingOf (reportedBy w now e outcome) j ≤ waitingOf w j
+  reported-waiting-le j = omega (arith, reported-waiting j)
+
+  pub reported-waiting-minus : (j : ℕ) → waitingOf (reportedBy w now e outcome) j ≡ waitingOf w j - putOffOf w (diedBy w now e outcome) (destinationOf w e) j
+  reported-waiting-minus j = omega (arith, reported-waiting j)
+
+  pub reported-dropped : (j : ℕ) → j < maxJobs → at ((reportedBy w now e outcome) .jobs .dropped) j ≡ at (w .jobs .dropped) j + putOffOf w (diedBy w now e outcome) (destinationOf w e) j
+  unfolding reporting reportedAt departed
+  reported-dropped j l = settled-dropped w e (healthBy w now e outcome) (diedBy w now e outcome) shaped sound inside busy j l
+
+  -- Who stays.
+
+  pub reported-present : (j : ℕ) → isPresent (reportedBy w now e outcome) j ≡ stays (settledBy w now e outcome) j
+  unfolding reporting reportedAt
+  reported-present j = departed-present (settledBy w now e outcome) (transportOf w (destinationOf w e)) settledShape j
+
+  settled-present : (j : ℕ) → isPresent (settledBy w now e outcome) j ≡ isPresent w j
+  unfolding settled
+  settled-present j = refl
+
+  pub reported-was-present : (j : ℕ) → isPresent (reportedBy w now e outcome) j ≡ true → isPresent w j ≡ true
+  reported-was-present j h = sym (settled-present j) ∙ stays-present (settledBy w now e outcome) j (sym (reported-present j) ∙ h)
+
+  -- a job that leaves has nothing waiting
+  pub left-waiting : (j : ℕ) → isPresent w j ≡ true → isPresent (reportedBy w now e outcome) j ≡ false → waitingOf (reportedBy w now e outcome) j ≡ 0
+  left-waiting j p f =
+      reported-waiting-settled w now e outcome j ∙ leaves-waiting (settledBy w now e outcome) j (settled-present j ∙ p) (sym (reported-present j) ∙ f)
+
+  -- Lists.
+
+  settled-queues : (u : ℕ) → queueOf (settledBy w now e outcome) u ≡ queueOf w u
+  unfolding settled
+  settled-queues u = refl
+
+  settled-arrivals : listOf ((settledBy w now e outcome) .arrivals) ≡ listOf (w .arrivals)
+  unfolding settled
+  settled-arrivals = refl
+
+  settled-transports : (settledBy w now e outcome) .setup .transports ≡ w .setup .transports
+  unfolding settled
+  settled-transports = refl
+
+  below-four : transportOf w (destinationOf w e) < maxTransports
+  below-four =
+      let l = reported-transport w e (healthBy w now e outcome) (diedBy w now e outcome) shaped sound inside busy in
+      let b = sound .setup .transports .1 in
+      omega arith
+
+  pub reported-queue : (u : ℕ) → u < w .setup .transports → queueOf (reportedBy w now e outcome) u ≡ keep (isPresent (reportedBy w now e outcome)) (queueOf w u)
+  unfolding reporting reportedAt
+  reported-queue u l =
+      departed-queues (settledBy w now e outcome) (transportOf w (destinationOf w e)) settledShape below-four (others-stay w e (healthBy w now e outcome) (diedBy w now e outcome) shaped sound inside busy) u (almost .queues u (rw settled-transports l))
+      ∙ keep-same (stays (settledBy w now e outcome)) (isPresent (reportedBy w now e outcome)) (queueOf (settledBy w now e outcome) u) (λ x h. sym (reported-present x)) ∙ ap (keep (isPresent (reportedBy w now e outcome))) (settled-queues u)
+
+  pub reported-arrivals : listOf ((reportedBy w now e outcome) .arrivals) ≡ keep (isPresent (reportedBy w now e outcome)) (listOf (w .arrivals))
+  unfolding reporting reportedAt
+  reported-arrivals =
+      departed-arrivals (settledBy w now e outcome) (transportOf w (destinationOf w e)) settledShape
+      ∙ keep-same (stays (settledBy w now e outcome)) (isPresent (reportedBy w now e outcome)) (listOf ((settledBy w now e outcome) .arrivals)) (λ x h. sym (reported-present x)) ∙ ap (keep (isPresent (reportedBy w now e outcome))) settled-arrivals
+
+  -- Parents.
+
+  stays-are-present : stays (settledBy w now e outcome) ≡ isPresent (reportedBy w now e outcome)
+  stays-are-present = fun-ext λ j. sym (reported-present j)
+
+  -- a job that stays goes to the nearest ancestor that stays
+  pub reported-parent : (j : ℕ) → isPresent (reportedBy w now e outcome) j ≡ true → parentOf (reportedBy w now e outcome) j ≡ firstAlong (isPresent (reportedBy w now e outcome)) (parentOf w) maxJobs (parentOf w j)
+  unfolding reporting reportedAt settled
+  reported-parent j h =
+      departed-parent-stays (settledBy w now e outcome) (transportOf w (destinationOf w e)) settledShape j (sym (reported-present j) ∙ h)
+      ∙ ap (λ p. firstAlong p (parentOf w) maxJobs (parentOf w j)) stays-are-present
+
+  -- the link of one that leaves stands
+  pub left-parent : (j : ℕ) → j < maxJobs → isPresent (reportedBy w now e outcome) j ≡ false → parentOf (reportedBy w now e outcome) j ≡ parentOf w j
+  unfolding reporting reportedAt settled
+  left-parent j l f = departed-parent-leaves (settledBy w now e outcome) (transportOf w (destinationOf w e)) settledShape j l (sym (reported-present j) ∙ f)
+
+  -- Destinations.
+
+  pub reported-health : healthOf (reportedBy w now e outcome) (destinationOf w e) ≡ (healthBy w now e outcome)
+  unfolding reporting reportedAt departed
+  reported-health = settled-health w e (healthBy w now e outcome) (diedBy w now e outcome) shaped sound inside busy
+
+  pub reported-health-other : (d : ℕ) → d ≢ (destinationOf w e) → healthOf (reportedBy w now e outcome) d ≡ healthOf w d
+  unfolding reporting reportedAt departed
+  reported-health-other = settled-health-other w e (healthBy w now e outcome) (diedBy w now e outcome) shaped sound inside busy
+
+-- the put-off list, and how many of its entries are a job's
+pub reported-putoff : (w : State) (now e : ℕ) (outcome : Outcome) → reporting w now e (destinationOf w e) outcome .putoff ≡ putOffEntries w (diedBy w now e outcome) (destinationOf w e)
+unfolding reporting reportedAt
+reported-putoff w now e outcome = refl
+
+pub putoff-times : (w : State) (died : Bool) (d j : ℕ) → timesIn j (map (jobOf w) (putOffEntries w died d)) ≡ putOffOf w died d j
+unfolding putOffEntries putOffOf
+putoff-times w died d j = times-chosen (jobOf w) (isPutOff w died d) j maxEntries
+
+-- none, where the destination did not die
+pub putoff-none : (w : State) (d j : ℕ) → putOffOf w false d j ≡ 0
+unfolding putOffOf isPutOff
+putoff-none w d j = count-none (λ e. isPutOff w false d e && eqb (jobOf w e) j) maxEntries λ e l. refl

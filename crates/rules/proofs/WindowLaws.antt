@@ -1,0 +1,144 @@
+-- The windows' arithmetic keeps a live destination in its ranges.
+use Prim.Native.Nat.{ℕ, _+_, _*_, _≤_, _<_}
+use mathlib.Core.Path.{_≡_, refl, subst}
+use mathlib.Core.Bool.{true, _&&_}
+use native.Mathlib.Nat.{div-le-of-le-mul}
+use native.Mathlib.Omega.{arith}
+use lib.Dec.{eqb, ltb, leb}
+use borrow.Author.Tests.{ltb-true, ltb-false, leb-true, leb-false}
+use Rattle.laws.proofs.Choice.{if-cases, and-left, and-right}
+use Rattle.laws.proofs.Both.{and-4}
+use Rattle.rules.specs.declared.Feedback.{Feedback}
+use Rattle.rules.specs.declared.Settings.{Settings}
+use Rattle.rules.specs.declared.Sums.{Sums}
+use Rattle.rules.specs.declared.Health.{Health}
+use Rattle.rules.specs.declared.Health.the-variants.{Live, Dead}
+use Rattle.rules.specs.Sizes.{U}
+use Rattle.rules.specs.Setup.{within, feedbackInRange, slotsInRange, windowsInRange, settingsInRange, firstState}
+use Rattle.rules.specs.SoundFacts.{LiveSound}
+use Rattle.rules.specs.Windows.{feedback, cohortShare, isDeadAt, raised, lowered, liveAfterSuccess, afterSuccess, liveAfterFailure}
+use Rattle.rules.specs.Windows.{afterFailure}
+use Rattle.rules.proofs.Soundness.{within-facts}
+
+-- what settings in range say of windows
+pub record WindowsRange (g : Settings) : Type 0 where
+  pub limit : (1 ≤ g .limit) × (g .limit ≤ 20)
+  pub initial : (1 ≤ g .initial) × (g .initial ≤ g .limit)
+  pub positive : feedbackInRange (g .positive) ≡ true
+  pub negative : feedbackInRange (g .negative) ≡ true
+  pub cohortlimit : (1 ≤ g .cohortlimit) × (g .cohortlimit ≤ 100)
+  pub suspension : (1 ≤ g .suspension) × (g .suspension ≤ 86_400)
+
+pub windows-range : (g : Settings) → settingsInRange g ≡ true → WindowsRange g
+unfolding settingsInRange windowsInRange
+windows-range g h =
+    let a = within 1 20 (g .limit) in
+    let b = within 1 (g .limit) (g .initial) in
+    let c = feedbackInRange (g .positive) in
+    let d = feedbackInRange (g .negative) in
+    let e = within 1 100 (g .cohortlimit) in
+    let f = within 1 86_400 (g .suspension) in
+    let z = and-right (slotsInRange g) (windowsInRange g) h in
+    let y = and-left (a && b && c && d && e) f z in
+    let x = and-left (a && b && c && d) e y in
+    let k = and-4 a b c d x in
+    record {
+      limit = within-facts (k .0);
+      initial = within-facts (k .1);
+      positive = k .2;
+      negative = k .3;
+      cohortlimit = within-facts (and-right (a && b && c && d) e y);
+      suspension = within-facts (and-right (a && b && c && d && e) f z);
+    }
+
+-- Feedback is at most 1.
+
+percent-le : (f : Feedback) → feedbackInRange f ≡ true → f .percent ≤ 100
+unfolding feedbackInRange
+percent-le f h = within-facts (and-left (within 0 100 (f .percent)) (within 0 1 (f .form)) h) .1
+
+pub feedback-le-U : (f : Feedback) (window : ℕ) → feedbackInRange f ≡ true → 1 ≤ window → feedback f window ≤ U
+unfolding feedback
+feedback-le-U f window h l =
+    let p = percent-le f h in
+    if-cases (λ x. x ≤ U) (eqb (f .form) 0)
+    (λ t. div-le-of-le-mul 100 (omega arith))
+    (λ t. div-le-of-le-mul (100 * window) (omega arith))
+
+-- The first state.
+
+pub live-first : (g : Settings) → settingsInRange g ≡ true → LiveSound g (firstState g)
+live-first g h =
+    let r = windows-range g h in
+    record { window = r .initial; success = omega arith; failure = omega arith; cohorts = omega arith }
+
+module _ (g : Settings) (u : Sums) (range : settingsInRange g ≡ true) (live : LiveSound g u) where
+  -- A success.
+
+  pub live-raised : (success : ℕ) → success < U + U → LiveSound g (raised g u success)
+  unfolding raised
+  live-raised success l =
+      let r = windows-range g range in
+      if-cases (LiveSound g) (leb U success)
+      (λ t.
+      let k = leb-true U success t in
+      record {
+        window = let a = live .window in let b = r .limit in omega arith;
+        success = omega arith;
+        failure = omega arith;
+        cohorts = omega arith;
+      })
+      (λ f. record { window = live .window; success = leb-false U success f; failure = live .failure; cohorts = omega arith })
+
+  pub live-after-success : (busy : ℕ) → LiveSound g (liveAfterSuccess g busy u)
+  unfolding liveAfterSuccess
+  live-after-success busy =
+      let r = windows-range g range in
+      let a = feedback-le-U (g .positive) (u .window) (r .positive) (live .window .0) in
+      let b = live .success in
+      if-cases (LiveSound g) (ltb (u .window) (busy + g .initial))
+      (λ t. live-raised (u .success + feedback (g .positive) (u .window)) (omega arith))
+      (λ f. record { window = live .window; success = live .success; failure = live .failure; cohorts = omega arith })
+
+  -- A failure.
+
+  pub live-lowered : (fall cohorts : ℕ) → fall ≤ U → cohorts ≤ g .cohortlimit * U → LiveSound g (lowered u fall cohorts)
+  unfolding lowered
+  live-lowered fall cohorts l m =
+      let r = windows-range g range in
+      let a = live .window in
+      let b = live .failure in
+      let c = r .limit in
+      if-cases (LiveSound g) (ltb (u .failure) fall)
+      (λ t. let k = ltb-true (u .failure) fall t in record { window = omega arith; success = omega arith; failure = omega arith; cohorts = m })
+      (λ f. record { window = live .window; success = live .success; failure = omega arith; cohorts = m })
+
+  pub live-after-failure : (now cohorts : ℕ) (v : Sums) → liveAfterFailure g now u cohorts ≡ Live v → LiveSound g v
+  unfolding liveAfterFailure isDeadAt
+  live-after-failure now cohorts v =
+      let r = windows-range g range in
+      let a = feedback-le-U (g .negative) (u .window) (r .negative) (live .window .0) in
+      if-cases (λ h. h ≡ Live v → LiveSound g v) (ltb (g .cohortlimit * U) cohorts)
+      (λ t e. let z : _≡_ {A = ℕ} 0 1 = cc in absurd (omega arith))
+      (λ f e.
+      let q : lowered u (feedback (g .negative) (u .window)) cohorts ≡ v = cc in
+      subst (LiveSound g) q
+      (live-lowered (feedback (g .negative) (u .window)) cohorts a (ltb-false (g .cohortlimit * U) cohorts f)))
+
+-- any destination
+
+pub live-success : (g : Settings) (busy : ℕ) (h : Health) (v : Sums) → settingsInRange g ≡ true → ((u : Sums) → h ≡ Live u → LiveSound g u)
+    → afterSuccess g busy h ≡ Live v → LiveSound g v
+unfolding afterSuccess
+live-success g busy (Live u) v range l e =
+    let q : liveAfterSuccess g busy u ≡ v = cc in
+    subst (LiveSound g) q (live-after-success g u range (l u refl) busy)
+live-success g busy (Dead end) v range l e =
+    let q : firstState g ≡ v = cc in
+    subst (LiveSound g) q (live-first g range)
+
+pub live-failure : (g : Settings) (now : ℕ) (h : Health) (v : Sums) → settingsInRange g ≡ true → ((u : Sums) → h ≡ Live u → LiveSound g u)
+    → afterFailure g now h ≡ Live v → LiveSound g v
+unfolding afterFailure
+live-failure g now (Live u) v range l e = live-after-failure g u range (l u refl) now (u .cohorts + cohortShare (u .window)) v e
+live-failure g now (Dead end) v range l e = let z : _≡_ {A = ℕ} 0 1 = cc in absurd (omega arith)
