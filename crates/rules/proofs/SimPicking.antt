@@ -98,3 +98,146 @@ module _ {u : Setup} {w : State} {y : Tally} {g : Columns} (m : Sim u w y g) (sh
             (⊎-elim (λ q. true-not-false (past-of w (y .rows) t b i here (before-up-to _ b (queueOf w t) (once-le (queue-once w t sound below) b) q) waits) f) (λ q. q)
             (before-total (rowAt (y .rows) i .job) b (queueOf w t) ne inside (cur .inside)))
       ]
+
+  -- From the current job.
+
+  module _ (bi : ℕ) (eb : rowOf (y .rows) b ≡ suc bi) where
+    lane-b : g .transport bi ≡ t
+    lane-b =
+        let (l, r) = m .job b (cur .present) in
+        ap (g .transport) (suc-inj (sym eb ∙ r .link)) ∙ sym (r .transport) ∙ cur .transport
+
+    past-lane : (i : ℕ) → i < g .rows → wentPast w (y .rows) t b i ≡ true → g .transport i ≡ t
+    past-lane i l h =
+        let f = past-facts w (y .rows) t b i h in
+        let q = present-row-is w (y .rows) i (f .0) in
+        let (c, r) = m .job (rowAt (y .rows) i .job) (q .0) in
+        ap (g .transport) (suc-inj (sym (q .1) ∙ r .link)) ∙ sym (r .transport)
+        ∙ queue-job w t (rowAt (y .rows) i .job) sound below (up-to-in b (rowAt (y .rows) i .job) (queueOf w t) (f .1)) .2
+
+    from-current : Picking g (Ahead w (y .rows)) bi (passedOver w t b) (wentPast w (y .rows) t b)
+    from-current =
+        record {
+          inside = row-inside m b bi eb;
+          waits =
+              (let (l, r) = m .job b (cur .present) in
+              subst (λ n. 1 ≤ n) (r .waiting ∙ ap (g .waiting) (suc-inj (sym (r .link) ∙ eb))) (has-eligible-waits w b (cur .eligible)));
+          same = λ i l h. past-lane i l h ∙ sym lane-b;
+          some = λ i l h. past-counted w (y .rows) t b i h;
+          first = λ i l e h ne f. behind i l (e ∙ lane-b) h ne (not-past i l h (e ∙ lane-b) f);
+        }
+      where
+        behind : (i : ℕ) → i < g .rows → g .transport i ≡ t → 1 ≤ g .waiting i → i ≢ bi → (rowAt (y .rows) i .job ≡ b) ⊎ Before b (rowAt (y .rows) i .job) (queueOf w t)
+            → Ahead w (y .rows) bi i
+        behind i l e h ne d =
+            let q = present-row-is w (y .rows) i (waiting-row i l h e .0) in
+            ⊎-elim (λ s. absurd (ne (suc-inj (sym (q .1) ∙ ap (rowOf (y .rows)) s ∙ eb)))) (λ s. (t, b, rowAt (y .rows) i .job, below, s, eb, q .1)) d
+
+    sim-current : Sim u (pickFrom w t b (passedOver w t b) nobody .state) (tallied y (pickingDecision (pickFrom w t b (passedOver w t b) nobody .found)))
+        (pick g bi (passedOver w t b) (wentPast w (y .rows) t b))
+    unfolding pickFrom tallied pickingDecision withPick preemptedRows
+    sim-current =
+        rw eb
+        (sim-handed-out m shaped t b (nextPlace w b) (nextEntry w b) bi (next-can w t b shaped sound (cur .present) (cur .transport) (cur .eligible))
+        (cur .present) eb (passedOver w t b) (wentPast w (y .rows) t b) from-current)
+
+  -- From a job that preempts it.
+
+  module _ (now x bi xi : ℕ) (p : Preempts w now t b x) (eb : rowOf (y .rows) b ≡ suc bi) (ex : rowOf (y .rows) x ≡ suc xi) where
+    abbrev k : ℕ
+    k = waitingOf w x
+
+    abbrev moved : State
+    moved = preempting w t x b k
+
+    abbrev rows : List Row
+    rows = overtaken (suc bi) k (naming xi (suc bi) (y .rows))
+
+    abbrev between : Tally
+    between = record { rows = rows; picks = y .picks; total = y .total }
+
+    sim-between : Sim u moved between (preempt g xi bi k)
+    sim-between = sim-preempting m shaped sound now t b x bi xi below cur p eb ex
+
+    kept : Shaped moved × Sound moved
+    kept = kept-preempting w now t b x shaped sound below cur p
+
+    row-of-between : (z : ℕ) → rowOf rows z ≡ rowOf (y .rows) z
+    row-of-between =
+        same-row-of (y .rows) rows (overtaken-alike (suc bi) k _ .length ∙ naming-alike (y .rows) xi (suc bi) .length)
+        (λ i. overtaken-alike (suc bi) k _ .job i ∙ naming-alike (y .rows) xi (suc bi) .job i)
+
+    lane-x : g .transport xi ≡ t
+    lane-x =
+        let (l, r) = m .job x (p .present) in
+        ap (g .transport) (suc-inj (sym ex ∙ r .link)) ∙ sym (r .transport) ∙ p .transport
+
+    from-preemptor : Picking (preempt g xi bi k) (Ahead moved rows) xi (passedOver w t b) (wentPast w (y .rows) t b)
+    from-preemptor =
+        record {
+          inside = row-inside m x xi ex;
+          waits =
+              (let (l, r) = m .job x (p .present) in
+              subst (λ n. 1 ≤ n) (r .waiting ∙ ap (g .waiting) (suc-inj (sym (r .link) ∙ ex))) (p .waits));
+          same = λ i l h. past-lane bi eb i l h ∙ sym lane-x;
+          some = λ i l h. past-counted w (y .rows) t b i h;
+          first = λ i l e h ne f. behind i l (e ∙ lane-x) h ne (not-past i l h (e ∙ lane-x) f);
+        }
+      where
+        apart : b ≢ x
+        apart e = p .other (sym e)
+
+        behind : (i : ℕ) → i < g .rows → g .transport i ≡ t → 1 ≤ g .waiting i → i ≢ xi → (rowAt (y .rows) i .job ≡ b) ⊎ Before b (rowAt (y .rows) i .job) (queueOf w t)
+            → Ahead moved rows xi i
+        behind i l e h ne d =
+            let q = present-row-is w (y .rows) i (waiting-row i l h e .0) in
+            let job : ℕ = rowAt (y .rows) i .job in
+            let off : job ≢ x = λ s. ne (suc-inj (sym (q .1) ∙ ap (rowOf (y .rows)) s ∙ ex)) in (
+              t,
+              x,
+              job,
+              (unfold preempting in below),
+              subst (Before x job) (sym (preempting-queue-own w t x b k shaped (lt-of-lt-of-le below (sound .setup .transports .1))))
+                  (⊎-elim (λ s. subst (λ j. Before x j (moveBefore x b (queueOf w t))) (sym s) (before-move-target x b (queueOf w t) apart (cur .inside)))
+                  (before-move-after x b (queueOf w t) job apart off) d),
+              row-of-between x ∙ ex,
+              row-of-between job ∙ q .1,
+            )
+
+    -- the transport that the pick counts for
+    same-lane : rowAt rows xi .transport ≡ rowAt (y .rows) xi .transport
+    same-lane = overtaken-alike (suc bi) k _ .transport xi ∙ naming-alike (y .rows) xi (suc bi) .transport xi
+
+    same-pick : (n : ℕ) → withPickAt between (suc xi) n rows ≡ withPickAt y (suc xi) n rows
+    unfolding withPickAt
+    same-pick n = rw same-lane
+
+    sim-preemptor : Sim u (pickFrom moved t x (passedOver w t b) (preemption x b k) .state)
+        (tallied y (pickingDecision (pickFrom moved t x (passedOver w t b) (preemption x b k) .found)))
+        (pick (preempt g xi bi k) xi (passedOver w t b) (wentPast w (y .rows) t b))
+    unfolding pickFrom tallied pickingDecision withPick preemptedRows
+    sim-preemptor =
+        rw (ex, eb)
+        (unfold withPreemption in
+        (subst
+        (λ z. Sim u (handedOut moved t x (nextPlace moved x) (nextEntry moved x)) z (pick (preempt g xi bi k) xi (passedOver w t b) (wentPast w (y .rows) t b)))
+        (same-pick (passedOver w t b))
+        (sim-handed-out sim-between (kept .0) t x (nextPlace moved x) (nextEntry moved x) xi
+        (next-can moved t x (kept .0) (kept .1) (unfold preempting in p .present) (unfold preempting in p .transport) (preempting-eligible w t x b k x ∙ p .eligible))
+        (unfold preempting in p .present) (row-of-between x ∙ ex) (passedOver w t b) (wentPast w (y .rows) t b) from-preemptor)))
+
+-- A pick that finds an entry: the rules' state and the tally move with some columns.
+
+pub sim-picking : {u : Setup} {w : State} {y : Tally} {g : Columns} → Sim u w y g → Shaped w → Sound w → (now : ℕ) → finds w ≡ true
+    → (g' : Columns) × Sim u (picking w now .state) (tallied y (pickingDecision (picking w now .found))) g'
+sim-picking {u} {w} {y} {g} m shaped sound now h =
+    picking-cases (λ r. (g' : Columns) × Sim u (r .state) (tallied y (pickingDecision (r .found))) g') w now shaped sound h
+    (λ t b et eb lane cur none.
+    let (i, r) = m .job b (cur .present) in
+    (pick g i (passedOver w t b) (wentPast w (y .rows) t b), sim-current m shaped sound t b (lane .below) cur i (r .link)))
+    (λ t b x et eb lane cur some p.
+    let (i, r) = m .job b (cur .present) in
+    let (l, q) = m .job x (p .present) in (
+      pick (preempt g l i (waitingOf w x)) l (passedOver w t b) (wentPast w (y .rows) t b),
+      sim-preemptor m shaped sound t b (lane .below) cur now x i l p (r .link) (q .link),
+    ))
