@@ -179,3 +179,12 @@ module _ (next other : ℕ → ℕ) (ok : ℕ → Type 0) (closed : (x y : ℕ) 
   first-along-same p zero k o = refl
   first-along-same p (suc n) zero o = refl
   first-along-same p (suc n) (suc x) o = rw (first-along-same p n (next x) (λ y. closed x y (o x refl)), same x (o x refl))
+
+-- another test that agrees along the chain
+pub first-along-agree : (p q : ℕ → Bool) (next : ℕ → ℕ) (ok : ℕ → Type 0) → ((x y : ℕ) → ok x → next x ≡ suc y → ok y) → ((x : ℕ) → ok x → p x ≡ q x)
+    → (n k : ℕ) → ((x : ℕ) → k ≡ suc x → ok x) → firstAlong p next n k ≡ firstAlong q next n k
+unfolding firstAlong
+first-along-agree p q next ok closed same zero k o = refl
+first-along-agree p q next ok closed same (suc n) zero o = refl
+first-along-agree p q next ok closed same (suc n) (suc x) o =
+    rw (same x (o x refl), first-along-agree p q next ok closed same n (next x) (λ y. closed x y (o x refl)))

@@ -39,4 +39,5 @@ pub mod KeptReporting
 pub mod ReportedFacts
 pub mod KeptFresh
 pub mod Accepted
+pub mod SimTaking
 pub mod Examples

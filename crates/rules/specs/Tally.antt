@@ -56,27 +56,23 @@ linkedRow rows (suc i) = rowAt rows i
 unfoldable pub countsOn : ℕ → Row → ℕ
 countsOn t r = if eqb (r .transport) t then r .n else 0
 
+-- "a new row with number, transport, n, overtakers 0, and N"
+unfoldable pub newRow : List Row → ℕ → ℕ → ℕ → Row
+newRow rows j t n =
+    record {
+      job = j;
+      transport = t;
+      n = n;
+      upto = sumTo (λ i. countsOn t (rowAt rows i)) (length rows) + n;
+      overtakers = 0;
+      names = 0;
+      lastpick = 0;
+      lasttotal = 0;
+    }
+
 -- "Job taken, n of 1 or more: a new row .."
 unfoldable pub withJob : Tally → ℕ → ℕ → ℕ → Tally
-withJob y j t n =
-    record {
-      rows = y .rows ++ (new ∷ []);
-      picks = y .picks;
-      total = y .total;
-    }
-  where
-    new : Row
-    new =
-        record {
-          job = j;
-          transport = t;
-          n = n;
-          upto = sumTo (λ i. countsOn t (rowAt (y .rows) i)) (length (y .rows)) + n;
-          overtakers = 0;
-          names = 0;
-          lastpick = 0;
-          lasttotal = 0;
-        }
+withJob y j t n = record { rows = y .rows ++ (newRow (y .rows) j t n ∷ []); picks = y .picks; total = y .total }
 
 -- the overtakers of a row grow by m
 unfoldable pub overtakenBy : ℕ → ℕ → List Row → List Row
