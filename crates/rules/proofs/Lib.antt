@@ -40,4 +40,5 @@ pub mod ReportedFacts
 pub mod KeptFresh
 pub mod Accepted
 pub mod SimTaking
+pub mod SimReporting
 pub mod Examples
