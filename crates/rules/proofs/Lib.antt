@@ -41,4 +41,7 @@ pub mod KeptFresh
 pub mod Accepted
 pub mod SimTaking
 pub mod SimReporting
+pub mod CallCases
+pub mod Reached
+pub mod Demand3
 pub mod Examples

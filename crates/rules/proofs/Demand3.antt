@@ -1,0 +1,96 @@
+-- Demand 3, proved for every accepted set-up and every list of calls.
+use Prim.Native.Nat.{ℕ, zero, suc, _+_, _-_, _/_, _≤_, _<_}
+use mathlib.Core.Path.{_≡_, refl, sym, _∙_, ap, ap₂, subst}
+use mathlib.Core.Bool.{Bool, true, false, not}
+use mathlib.Core.List.{List, [], _∷_, _++_}
+use mathlib.Core.Logic.{⊎-elim}
+use native.Mathlib.Nat.{add-zero, le-trans}
+use native.Mathlib.Omega.{arith}
+use lib.ListN.{length}
+use Rattle.laws.specs.Choice.{if_then_else_}
+use Rattle.laws.proofs.All.{any-witness}
+use Rattle.ceiling.proofs.Ceilings.{over-ceiling, over-within, over-ceiling-free, pick-ceiling, pick-ceiling-free, blocked-none}
+use Rattle.rules.specs.declared.Setup.{Setup}
+use Rattle.rules.specs.declared.State.{State}
+use Rattle.rules.specs.Sizes.{maxEntries}
+use Rattle.rules.specs.State.{at, settingsOf, destinationOf, isPresent, usedOf}
+use Rattle.rules.specs.Setup.{setupInRange}
+use Rattle.rules.specs.Sound.{sound}
+use Rattle.rules.specs.SoundFacts.{Sound}
+use Rattle.rules.specs.Refusals.{askRefusal}
+use Rattle.rules.specs.Calls.{Call, ask, Says, Reply, answers, unlessRefused, askReply, replyTo}
+use Rattle.rules.specs.Tally.{Row, Tally, rowAt, rowOf, linkedRow}
+use Rattle.rules.specs.Run.{stateAfter, tallyOf}
+use Rattle.rules.specs.Demand3.{Ceilings, Demand3, Companions, costFor}
+use Rattle.rules.proofs.Shape.{Shaped}
+use Rattle.rules.proofs.Soundness.{sound-of}
+use Rattle.rules.proofs.EntryTests.{used-not-free, used-job}
+use Rattle.rules.proofs.KeptRanges.{cost-range}
+use Rattle.rules.proofs.EntryFacts.{present-below}
+use Rattle.rules.proofs.Refused.{refusalOf, refusal-answered, sound-not-1}
+use Rattle.rules.proofs.Sim.{costIn, RowIs, JobIs, Sim}
+use Rattle.rules.proofs.SimRows.{row-inside}
+use Rattle.rules.proofs.Reached.{Reached, reached}
+
+-- the ceilings of a row of the tally beside a reached state
+ceilings-at : {u : Setup} {s : State} {y : Tally} → Reached u s y → (i : ℕ) → i < length (y .rows) → Ceilings (costFor u (rowAt (y .rows) i)) (rowAt (y .rows) i)
+ceilings-at {u} {s} {y} r i l =
+    let g = r .columns in
+    let inside : i < g .rows = subst (λ n. i < n) (r .sim .rows) l in
+    let w = r .sim .row i inside in
+    let cost : costFor u (rowAt (y .rows) i) ≡ costIn u (g .transport i) = ap (costIn u) (w .transport) in
+    record {
+      overtakers = λ h. rw (w .overtakers, w .n, cost) (over-ceiling (r .sim .inv) i inside (subst (λ c. 2 ≤ c) cost h));
+      nobody = λ h. w .overtakers ∙ over-ceiling-free (r .sim .inv) i inside (sym cost ∙ h);
+      lastpick = λ z h.
+          (let none = blocked-none (r .sim .inv) i inside (sym (w .lasttotal) ∙ z) in
+          let c = pick-ceiling (r .sim .inv) i inside (subst (λ c. 2 ≤ c) cost h) in
+          rw (w .lastpick, w .upto, cost) (omega arith));
+      lastpickoff = λ z h.
+          (let none = blocked-none (r .sim .inv) i inside (sym (w .lasttotal) ∙ z) in
+          let c = pick-ceiling-free (r .sim .inv) i inside (sym cost ∙ h) in
+          rw (w .lastpick, w .upto) (omega arith));
+    }
+
+-- asking about a present job of a sound state is accepted
+ask-accepted : (s : State) (j : ℕ) → sound s ≡ true → isPresent s j ≡ true → replyTo s (ask j) .says ≡ answers (at (s .jobs .overtakers) j ∷ [])
+unfolding replyTo askReply unlessRefused askRefusal if_then_else_
+ask-accepted s j h p = rw (h, p) refl
+
+asking-at : {u : Setup} {s : State} {y : Tally} → Reached u s y → (j : ℕ) → isPresent s j ≡ true
+    → (1 ≤ rowOf (y .rows) j) × (replyTo s (ask j) .says ≡ answers (linkedRow (y .rows) (rowOf (y .rows) j) .overtakers ∷ []))
+unfolding linkedRow
+asking-at {u} {s} {y} r j h =
+    let (i, q) = r .sim .job j h in
+    rw (q .link) (
+      omega arith,
+      ask-accepted s j (sound-of s (r .sound)) h ∙ ap (λ n. answers (n ∷ [])) (q .over ∙ sym (r .sim .row i (row-inside (r .sim) j i (q .link)) .overtakers)),
+    )
+
+pub demand3 : (u : Setup) → setupInRange u ≡ true → (calls : List Call) → Demand3 u calls
+demand3 u h calls =
+    record {
+      ceilings = ceilings-at (reached u h calls);
+      asking = λ before after e. asking-at (reached u h before);
+    }
+
+-- a present job's transport is one of the set-up's: it has an entry
+job-lane : (s : State) → Shaped s → Sound s → (j : ℕ) → isPresent s j ≡ true → at (s .jobs .transport) j < s .setup .transports
+job-lane s shaped whole j h =
+    let (e, l, used) = any-witness (usedOf s j) maxEntries (whole .jobs j (present-below s shaped j h) h .used) in
+    let r = whole .entries e l (used-not-free s j e used) in
+    subst (λ t. t < s .setup .transports) (sym (r .transport) ∙ ap (at (s .jobs .transport)) (used-job s j e used))
+    (whole .setup .home (destinationOf s e) (r .destination))
+
+-- sums stay at most n
+sums-small : {u : Setup} {s : State} {y : Tally} → Reached u s y → (j : ℕ) → isPresent s j ≡ true → at (s .jobs .overtakers) j ≤ 256
+sums-small {u} {s} {y} r j h =
+    let (i, q) = r .sim .job j h in
+    let inside = row-inside (r .sim) j i (q .link) in
+    let n = r .sound .jobs j (present-below s (r .shaped) j h) h .n .1 in
+    let cost : costIn u (r .columns .transport i) ≡ settingsOf s (at (s .jobs .transport) j) .cost =
+    ap₂ costIn (sym (r .sim .setup)) (sym (q .transport)) in
+    ⊎-elim
+    (λ z. rw (q .over ∙ over-ceiling-free (r .sim .inv) i inside (cost ∙ z)) (omega arith))
+    (λ z. rw (q .over) (le-trans (over-within (r .sim .inv) i inside (subst (λ c. 2 ≤ c) (sym cost) z)) (subst (λ v. v ≤ 256) (q .n) n)))
+    (cost-range (settingsOf s (at (s .jobs .transport) j)) (r .sound .setup .settings (at (s .jobs .transport) j) (job-lane s (r .shaped) (r .sound) j h)))
