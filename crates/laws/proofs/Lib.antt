@@ -24,3 +24,4 @@ pub mod ChainAmong
 pub mod Columns
 pub mod ChosenTimes
 pub mod ChainSkip
+pub mod Newest

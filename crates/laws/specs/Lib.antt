@@ -1,5 +1,6 @@
 pub mod Chain
 pub mod Choice
+pub mod Newest
 pub mod Onto
 pub mod Order
 pub mod Range

@@ -17,11 +17,12 @@ use Rattle.rules.specs.State.{at, settingsOf, destinationOf, isPresent, 
 use Rattle.rules.specs.Setup.{setupInRange}
 use Rattle.rules.specs.Sound.{sound}
 use Rattle.rules.specs.SoundFacts.{Sound}
+use Rattle.rules.specs.Windows.{woken}
 use Rattle.rules.specs.Refusals.{askRefusal}
 use Rattle.rules.specs.Calls.{Call, ask, Says, Reply, answers, unlessRefused, askReply, replyTo}
 use Rattle.rules.specs.Tally.{Row, Tally, rowAt, rowOf, linkedRow}
 use Rattle.rules.specs.Run.{stateAfter, tallyOf}
-use Rattle.rules.specs.Demand3.{Ceilings, Demand3, Companions, costFor}
+use Rattle.rules.specs.Demand3.{Ceilings, Demand3, Companions, Demand3Holds, costFor}
 use Rattle.rules.proofs.Shape.{Shaped}
 use Rattle.rules.proofs.Soundness.{sound-of}
 use Rattle.rules.proofs.EntryTests.{used-not-free, used-job}
@@ -30,7 +31,11 @@ use Rattle.rules.proofs.EntryFacts.{present-below}
 use Rattle.rules.proofs.Refused.{refusalOf, refusal-answered, sound-not-1}
 use Rattle.rules.proofs.Sim.{costIn, RowIs, JobIs, Sim}
 use Rattle.rules.proofs.SimRows.{row-inside}
+use Rattle.rules.proofs.Picked.{finds-some}
+use Rattle.rules.proofs.KeptWaking.{kept-woken}
+use Rattle.rules.proofs.Accepted.{pick-accepted}
 use Rattle.rules.proofs.Reached.{Reached, reached}
+use Rattle.rules.proofs.NothingLost.{nothing-lost}
 
 -- the ceilings of a row of the tally beside a reached state
 ceilings-at : {u : Setup} {s : State} {y : Tally} → Reached u s y → (i : ℕ) → i < length (y .rows) → Ceilings (costFor u (rowAt (y .rows) i)) (rowAt (y .rows) i)
@@ -94,3 +99,20 @@ sums-small {u} {s} {y} r j h =
     (λ z. rw (q .over ∙ over-ceiling-free (r .sim .inv) i inside (cost ∙ z)) (omega arith))
     (λ z. rw (q .over) (le-trans (over-within (r .sim .inv) i inside (subst (λ c. 2 ≤ c) (sym cost) z)) (subst (λ v. v ≤ 256) (q .n) n)))
     (cost-range (settingsOf s (at (s .jobs .transport) j)) (r .sound .setup .settings (at (s .jobs .transport) j) (job-lane s (r .shaped) (r .sound) j h)))
+
+pub companions : (u : Setup) → setupInRange u ≡ true → (calls : List Call) → Companions u calls
+companions u h calls =
+    let r = reached u h calls in
+    let whole = sound-of (stateAfter u calls) (r .sound) in
+    record {
+      reached = whole;
+      never1 = λ call e. sound-not-1 (stateAfter u calls) call whole (sym (refusal-answered (stateAfter u calls) call) ∙ e);
+      findsEligible = λ now a.
+          (let c = pick-accepted (stateAfter u calls) now a .clock in
+          finds-some (woken (stateAfter u calls) now) (kept-woken (stateAfter u calls) now (r .shaped) (r .sound) (c .later) .1));
+      nothingLost = nothing-lost u h calls .balance;
+      sumsSmall = sums-small r;
+    }
+
+pub demand3-holds : Demand3Holds
+demand3-holds u calls h = (demand3 u h calls, companions u h calls)

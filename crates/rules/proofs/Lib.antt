@@ -44,4 +44,6 @@ pub mod SimReporting
 pub mod CallCases
 pub mod Reached
 pub mod Demand3
+pub mod Books
+pub mod NothingLost
 pub mod Examples

@@ -92,8 +92,11 @@ unfolding stateFrom talliedAll decisionsFrom
 reached-from s y r [] = r
 reached-from s y r (call ∷ calls) = reached-from (replyTo s call .state) (tallied y (decisionOn s call)) (reached-next r call) calls
 
+pub reached-start : (u : Setup) → setupInRange u ≡ true → Reached u (freshState u) noTally
+reached-start u h =
+    let kept = kept-fresh u (in-range-facts u h) in
+    record { shaped = kept .0; sound = kept .1; columns = fresh; sim = sim-fresh u }
+
 pub reached : (u : Setup) → setupInRange u ≡ true → (calls : List Call) → Reached u (stateAfter u calls) (tallyOf u calls)
 unfolding stateAfter tallyOf
-reached u h calls =
-    let kept = kept-fresh u (in-range-facts u h) in
-    reached-from (freshState u) noTally (record { shaped = kept .0; sound = kept .1; columns = fresh; sim = sim-fresh u }) calls
+reached u h calls = reached-from (freshState u) noTally (reached-start u h) calls

@@ -23,7 +23,7 @@ getD-constant a zero j = refl
 getD-constant a (suc n) zero = refl
 getD-constant a (suc n) (suc j) = getD-constant a n j
 
-none-present : (u : Setup) (j : ℕ) → isPresent (freshState u) j ≡ false
+pub none-present : (u : Setup) (j : ℕ) → isPresent (freshState u) j ≡ false
 unfolding freshState emptyState
 none-present u j = getD-constant false 32 j
 

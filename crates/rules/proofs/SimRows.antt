@@ -6,15 +6,13 @@ use mathlib.Core.Bool.{Bool, true, false, _&&_}
 use mathlib.Core.List.{List}
 use native.Mathlib.Nat.{suc-inj}
 use lib.ListN.{length, getD, set, length-set}
-use lib.Seq.{getD-set-same, getD-set-other, set-out}
-use native.Mathlib.Decide.{ℕ-discrete, decLt}
-use native.Mathlib.Omega.{arith}
+use lib.Seq.{getD-set-same, getD-set-other}
 use lib.Dec.{eqb}
 use borrow.Author.Tests.{eqb-true, eq-eqb}
 use Rattle.laws.specs.Chain.{endsIn, firstAlong}
 use Rattle.laws.specs.Onto.{near}
 use Rattle.laws.proofs.Choice.{and-both, and-left, and-right}
-use Rattle.laws.proofs.Chain.{first-along-same}
+use Rattle.laws.proofs.Newest.{set-field}
 use Rattle.ceiling.specs.Columns.{Columns}
 use Rattle.rules.specs.declared.Setup.{Setup}
 use Rattle.rules.specs.declared.State.{State}
@@ -71,13 +69,8 @@ module _ (rows : List Row) (i : ℕ) (new : Row) where
   pub row-other : (k : ℕ) → k ≢ i → rowAt (set rows i new) k ≡ rowAt rows k
   row-other k ne = getD-set-other rows i k new noRow ne
 
-  -- what the new row has as the old one had it is as it was everywhere
   pub row-field : (f : Row → ℕ) → f new ≡ f (rowAt rows i) → (k : ℕ) → f (rowAt (set rows i new) k) ≡ f (rowAt rows k)
-  row-field f e k =
-      elim (ℕ-discrete k i) [
-        | yes q ↦ rw q (elim (decLt i (length rows)) [ yes l ↦ ap f (row-same l) ∙ e | no h ↦ ap (λ l. f (rowAt l i)) (set-out rows i new (omega arith)) ])
-        | no ne ↦ ap f (row-other k ne)
-      ]
+  row-field = set-field noRow rows i new
 
 -- near reads the test pointwise
 pub near-test : (p q : ℕ → Bool) (next : ℕ → ℕ) (n i : ℕ) → ((k : ℕ) → p k ≡ q k) → near p next n i ≡ near q next n i

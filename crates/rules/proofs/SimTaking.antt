@@ -21,6 +21,7 @@ use Rattle.laws.proofs.Choice.{true-not-false, and-left-false, and-right-false,
 use Rattle.laws.proofs.Update.{upd-same, upd-other, upd-below}
 use Rattle.laws.proofs.Sum.{sum-eq}
 use Rattle.laws.proofs.All.{below-suc}
+use Rattle.laws.proofs.Newest.{getD-old, getD-new, length-new}
 use Rattle.laws.proofs.Sequence.{holds-cases}
 use Rattle.laws.proofs.Chain.{link-cases, ends-zero, first-along-zero, first-along-same, first-along-agree, first-along-enough, first-along-ok}
 use Rattle.laws.proofs.Order.{before-append-cases, before-left, before-right}
@@ -34,13 +35,13 @@ use Rattle.rules.specs.declared.State.{State}
 use Rattle.rules.specs.State.{at, queueOf, isPresent, waitingOf, parentOf}
 use Rattle.rules.specs.SoundFacts.{Sound}
 use Rattle.rules.specs.Taking.{taken}
-use Rattle.rules.specs.Tally.{Row, Tally, rowAt, rowOf, countsOn, newRow, withJob}
+use Rattle.rules.specs.Tally.{Row, Tally, noRow, rowAt, rowOf, countsOn, newRow, withJob}
 use Rattle.rules.proofs.Shape.{Shaped}
 use Rattle.rules.proofs.Taken.{Fits, taken-others, taken-new, taking-leaves, present-other}
 use Rattle.rules.proofs.TakenEntries.{taken-waiting-new, taken-waiting-other}
 use Rattle.rules.proofs.TakenLists.{taken-queue, taken-queue-other}
 use Rattle.rules.proofs.Picked.{queue-job}
-use Rattle.rules.proofs.Rows.{row-old, row-new, length-new, row-of-new, row-of-old, row-of-is}
+use Rattle.rules.proofs.Rows.{row-of-new, row-of-old, row-of-is}
 use Rattle.rules.proofs.Sim.{presentRow, jobLink, Ahead, RowIs, JobIs, Sim}
 use Rattle.rules.proofs.SimRows.{row-inside, present-of}
 
@@ -74,10 +75,10 @@ module _ {u : Setup} {w : State} {y : Tally} {g : Columns} (m : Sim u w y g) (j 
   row-of-other x ne = row-of-old (y .rows) new x (λ e. ne (e ∙ new-job))
 
   old : (i : ℕ) → i < g .rows → rowAt rows i ≡ rowAt (y .rows) i
-  old i l = row-old (y .rows) new i (subst (λ n. i < n) (sym (m .rows)) l)
+  old i l = getD-old (λ r. r .job) noRow (y .rows) new i (subst (λ n. i < n) (sym (m .rows)) l)
 
   newest : rowAt rows (g .rows) ≡ new
-  newest = ap (rowAt rows) (sym (m .rows)) ∙ row-new (y .rows) new
+  newest = ap (rowAt rows) (sym (m .rows)) ∙ getD-new (λ r. r .job) noRow (y .rows) new
 
   row-after : (i : ℕ) → i < suc (g .rows) → RowIs g' i (rowAt rows i)
   unfolding newRow countsOn
@@ -266,7 +267,7 @@ module _ {u : Setup} {w : State} {y : Tally} {g : Columns} (m : Sim u w y g) (j 
   sim-taken =
       record {
         setup = unfold taken in m .setup;
-        rows = length-new (y .rows) new ∙ ap suc (m .rows);
+        rows = length-new (λ r. r .job) noRow (y .rows) new ∙ ap suc (m .rows);
         row = row-after;
         picks = m .picks;
         total = m .total;

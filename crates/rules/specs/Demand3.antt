@@ -4,10 +4,15 @@ use mathlib.Core.Path.{_≡_}
 use mathlib.Core.Bool.{true}
 use mathlib.Core.List.{List, [], _∷_, _++_}
 use lib.ListN.{length, getD}
+use Rattle.laws.specs.Range.{anyTo}
 use Rattle.rules.specs.declared.Setup.{Setup}
+use Rattle.rules.specs.Sizes.{maxEntries}
 use Rattle.rules.specs.State.{at, isPresent, zeroSettings}
 use Rattle.rules.specs.Setup.{setupInRange}
 use Rattle.rules.specs.Sound.{sound}
+use Rattle.rules.specs.Windows.{woken}
+use Rattle.rules.specs.Picking.{eligible, finds}
+use Rattle.rules.specs.Refusals.{pickRefusal}
 use Rattle.rules.specs.Calls.{Call, Says, Reply, answers, replyTo}
 use Rattle.rules.specs.Tally.{Row, Tally, rowAt, rowOf, linkedRow}
 use Rattle.rules.specs.Run.{stateAfter, tallyOf}
@@ -46,6 +51,8 @@ pub record Companions (u : Setup) (calls : List Call) : Type 0 where
   pub reached : sound (stateAfter u calls) ≡ true
   -- so no call is refused with 1
   pub never1 : (call : Call) → replyTo (stateAfter u calls) call .says .refusal ≡ 1 → ⊥
+  -- an accepted pick finds something exactly when some entry is eligible
+  pub findsEligible : (now : ℕ) → pickRefusal (stateAfter u calls) now ≡ 0 → finds (woken (stateAfter u calls) now) ≡ anyTo (eligible (woken (stateAfter u calls) now)) maxEntries
   -- entries taken to wait = picked + put off later + still waiting, for each job ever taken
   pub nothingLost :
       (i : ℕ)

@@ -5,7 +5,7 @@ use mathlib.Core.List.{List, [], _∷_, _++_}
 use lib.ListN.{length, getD, set}
 use lib.Dec.{eqb}
 use Rattle.laws.specs.Choice.{if_then_else_}
-use Rattle.laws.specs.Range.{lastTo}
+use Rattle.laws.specs.Newest.{newest}
 use Rattle.rules.specs.declared.Setup.{Setup}
 use Rattle.rules.specs.declared.State.{State}
 use Rattle.rules.specs.State.{isPresent, waitingOf}
@@ -28,7 +28,7 @@ accountAt l i = getD l i noAccount
 
 -- the link to the newest account with this job number
 unfoldable pub accountOf : List Account → ℕ → ℕ
-accountOf l j = lastTo (λ i. eqb (accountAt l i .job) j) (length l)
+accountOf l j = newest (λ a. a .job) noAccount l j
 
 -- p more picked and q more put off at the account that the link leads to
 unfoldable pub booked : ℕ → ℕ → ℕ → List Account → List Account

@@ -5,7 +5,8 @@ use mathlib.Core.List.{List, [], _∷_, _++_}
 use lib.ListN.{length, getD, set}
 use lib.Dec.{eqb}
 use Rattle.laws.specs.Choice.{if_then_else_}
-use Rattle.laws.specs.Range.{sumTo, lastTo}
+use Rattle.laws.specs.Range.{sumTo}
+use Rattle.laws.specs.Newest.{newest}
 use Rattle.laws.specs.Chain.{alongChain}
 use Rattle.laws.specs.Update.{upd}
 use Rattle.rules.specs.Pick.{Preemption, nobody, preemption}
@@ -45,7 +46,7 @@ rowAt rows i = getD rows i noRow
 
 -- "a present job's row is the newest with its number": the link to it
 unfoldable pub rowOf : List Row → ℕ → ℕ
-rowOf rows j = lastTo (λ i. eqb (rowAt rows i .job) j) (length rows)
+rowOf rows j = newest (λ r. r .job) noRow rows j
 
 -- the row that a link leads to
 unfoldable pub linkedRow : List Row → ℕ → Row
