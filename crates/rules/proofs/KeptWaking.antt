@@ -18,16 +18,16 @@ use Rattle.rules.specs.declared.State.{State}
 use Rattle.rules.specs.Sizes.{maxDestinations}
 use Rattle.rules.specs.State.{transportOf, settingsFor, healthOf, zeroDestination, waitsOf, busyOf, usedOf, waitingOf}
 use Rattle.rules.specs.Setup.{firstState}
-use Rattle.rules.specs.Windows.{wokenHealth, wokenDestination, woken}
+use Rattle.rules.specs.Windows.{wokenHealth, wokenAt, woken}
 use Rattle.rules.specs.Sound.{busyOn, busyTo, isJobOn, orderOf}
 use Rattle.rules.specs.SoundFacts.{LiveSound, DestinationSound, Sound}
 use Rattle.rules.proofs.Shape.{Shaped}
 use Rattle.rules.proofs.KeptRanges.{initial-range}
 
 pub woken-health : (s : State) (now d : ℕ) → d < s .setup .destinations → d < maxDestinations → healthOf (woken s now) d ≡ wokenHealth (settingsFor s d) now (healthOf s d)
-unfolding woken wokenDestination
+unfolding woken wokenAt
 woken-health s now d l m =
-    ap (λ x. x .health) (getD-table (wokenDestination s now) maxDestinations d zeroDestination m
+    ap (λ x. x .health) (getD-table (wokenAt (s .destinations) (s .setup) now) maxDestinations d zeroDestination m
     ∙ if-true (record { health = wokenHealth (settingsFor s d) now (healthOf s d) }) (getD (s .destinations) d zeroDestination) (lt-ltb d (s .setup .destinations) l))
 
 -- a dead destination may wake, a live one stays as it is
@@ -67,7 +67,7 @@ pub kept-woken : (s : State) (now : ℕ) → Shaped s → Sound s → s .clock �
 unfolding woken busyOn busyTo isJobOn orderOf waitsOf busyOf usedOf waitingOf
 kept-woken s now shape h late = (
   record {
-    destinations = length-table (wokenDestination s now) maxDestinations;
+    destinations = length-table (wokenAt (s .destinations) (s .setup) now) maxDestinations;
     busy = shape .busy;
     queues = shape .queues;
     queue = shape .queue;

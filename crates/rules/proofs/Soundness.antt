@@ -14,6 +14,7 @@ use Rattle.laws.proofs.Choice.{true-not-false, case-bool, false-of, and-both, a
 use Rattle.laws.proofs.Both.{and-3, and-4, and-8}
 use Rattle.laws.proofs.All.{all-at, all-from, any-of, any-none, any-false-at}
 use Rattle.laws.proofs.Sequence.{every-at, every-from}
+use Rattle.rules.specs.declared.Settings.{Settings}
 use Rattle.rules.specs.declared.Setup.{Setup}
 use Rattle.rules.specs.declared.Sums.{Sums}
 use Rattle.rules.specs.declared.Health.{Health}
@@ -24,7 +25,7 @@ use Rattle.rules.specs.State.{at, settingsFor, transportOf, healthOf, ze
 use Rattle.rules.specs.State.{jobOf, destinationOf, isPresent, hasPreempted, busyOf, usedOf, waitingOf, parentOf}
 use Rattle.rules.specs.Setup.{within, setupInRange, settingsInRange}
 use Rattle.rules.specs.Sound.{implies, belongs, entrySound, busyOn, busyTo, busySound, isJobOn, queueSound, arrivalsSound, orderOf, orderSound, countsSound}
-use Rattle.rules.specs.Sound.{costOf, soldSound, childOf, jobSound, healthSound, sound}
+use Rattle.rules.specs.Sound.{costOf, soldSound, childOf, jobSound, sumsFit, healthSound, sound}
 use Rattle.rules.specs.SoundFacts.{InRange, EntrySound, QueueSound, ArrivalsSound, ChildOf, JobSound, LiveSound, DestinationSound, Sound}
 
 -- Small tests and their facts.
@@ -69,6 +70,26 @@ module _ (u : Setup) where
       and-both
       (and-both (and-both (within-of (r .transports)) (within-of (r .destinations))) (all-from (λ t. settingsInRange (getD (u .settings) t zeroSettings)) (u .transports) (r .settings)))
       (all-from (λ d. ltb (at (u .home) d) (u .transports)) (u .destinations) λ d l. lt-ltb (at (u .home) d) (u .transports) (r .home d l))
+
+-- A live destination.
+
+module _ (g : Settings) (u : Sums) where
+  pub sums-fit-facts : sumsFit g u ≡ true → LiveSound g u
+  unfolding sumsFit
+  sums-fit-facts h =
+      let f = and-4 (within 1 (g .limit) (u .window)) (ltb (u .success) U) (ltb (u .failure) U) (leb (u .cohorts) (g .cohortlimit * U)) h in
+      record {
+        window = within-facts (f .0);
+        success = ltb-true (u .success) U (f .1);
+        failure = ltb-true (u .failure) U (f .2);
+        cohorts = leb-true (u .cohorts) (g .cohortlimit * U) (f .3);
+      }
+
+  pub sums-fit-of : LiveSound g u → sumsFit g u ≡ true
+  unfolding sumsFit
+  sums-fit-of r =
+      and-both (and-both (and-both (within-of (r .window)) (lt-ltb (u .success) U (r .success))) (lt-ltb (u .failure) U (r .failure)))
+      (le-leb (u .cohorts) (g .cohortlimit * U) (r .cohorts))
 
 module _ (s : State) where
   -- Entries.
@@ -253,22 +274,11 @@ module _ (s : State) where
 
   live-facts : (d : ℕ) (u : Sums) → healthSound s d (Live u) ≡ true → LiveSound (settingsFor s d) u
   unfolding healthSound
-  live-facts d u h =
-      let f =
-      and-4 (within 1 (settingsFor s d .limit) (u .window)) (ltb (u .success) U) (ltb (u .failure) U)
-      (leb (u .cohorts) (settingsFor s d .cohortlimit * U)) h in
-      record {
-        window = within-facts (f .0);
-        success = ltb-true (u .success) U (f .1);
-        failure = ltb-true (u .failure) U (f .2);
-        cohorts = leb-true (u .cohorts) (settingsFor s d .cohortlimit * U) (f .3);
-      }
+  live-facts d u h = sums-fit-facts (settingsFor s d) u h
 
   live-of : (d : ℕ) (u : Sums) → LiveSound (settingsFor s d) u → healthSound s d (Live u) ≡ true
   unfolding healthSound
-  live-of d u r =
-      and-both (and-both (and-both (within-of (r .window)) (lt-ltb (u .success) U (r .success))) (lt-ltb (u .failure) U (r .failure)))
-      (le-leb (u .cohorts) (settingsFor s d .cohortlimit * U) (r .cohorts))
+  live-of d u r = sums-fit-of (settingsFor s d) u r
 
   dead-facts : (d end : ℕ) → healthSound s d (Dead end) ≡ true → (e : ℕ) → e < maxEntries → isWaiting s e ≡ true → destinationOf s e ≡ d → ⊥
   unfolding healthSound waitsTo

@@ -1,12 +1,14 @@
 -- Document 01, "Board text", as bytes.
 use Prim.Native.Nat.{ℕ, zero, suc, _+_, _/_, _%_}
 use mathlib.Core.List.{List, [], _∷_, _++_}
+use lib.ListN.{getD}
 use lib.Dec.{ltb}
 use Rattle.laws.specs.Choice.{if_then_else_}
 use Rattle.rules.specs.declared.Health.{Health}
 use Rattle.rules.specs.declared.Health.the-variants.{Live, Dead}
+use Rattle.rules.specs.declared.Destination.{Destination}
 use Rattle.rules.specs.declared.State.{State}
-use Rattle.rules.specs.State.{at, healthOf}
+use Rattle.rules.specs.State.{at, zeroDestination}
 
 -- "Numbers are decimal without leading zeros": those of at most n + 1 digits
 unfoldable pub decimalIn : ℕ → ℕ → List ℕ
@@ -50,9 +52,13 @@ unfoldable pub destinationLine : ℕ → Health → ℕ → List ℕ
 destinationLine d h busy = lineWord ++ decimal d ++ healthText h busy ++ lineEnd
 
 -- "rising": the lines of the destinations below n
-unfoldable pub destinationLines : State → ℕ → List ℕ
-destinationLines s zero = []
-destinationLines s (suc d) = destinationLines s d ++ destinationLine d (healthOf s d) (at (s .busy .destination) d)
+unfoldable pub linesOf : List Destination → List ℕ → ℕ → List ℕ
+linesOf ds busy zero = []
+linesOf ds busy (suc d) = linesOf ds busy d ++ destinationLine d (getD ds d zeroDestination .health) (at busy d)
+
+-- the text of a clock and so many destinations, with their busy counts
+unfoldable pub textOf : ℕ → ℕ → List Destination → List ℕ → List ℕ
+textOf clock count ds busy = clockLine clock ++ linesOf ds busy count
 
 unfoldable pub boardText : State → List ℕ
-boardText s = clockLine (s .clock) ++ destinationLines s (s .setup .destinations)
+boardText s = textOf (s .clock) (s .setup .destinations) (s .destinations) (s .busy .destination)

@@ -9,6 +9,7 @@ use Rattle.laws.specs.Range.{allTo, anyTo, countTo, tableTo}
 use Rattle.laws.specs.Chain.{endsIn}
 use Rattle.laws.specs.Sequence.{holds, timesIn, everyIn, holdsEachOnce, neverFalling}
 use Rattle.rules.specs.declared.Settings.{Settings}
+use Rattle.rules.specs.declared.Sums.{Sums}
 use Rattle.rules.specs.declared.Health.{Health}
 use Rattle.rules.specs.declared.Health.the-variants.{Live, Dead}
 use Rattle.rules.specs.declared.State.{State}
@@ -115,13 +116,17 @@ jobSound s j =
     -- "turns name what exists", this job's
     && leb (at (s .jobs .turn) j) (at (s .jobs .places) j)
 
--- "a live destination has window 1 to limit and both parts in 0 to U-1, with cohorts at most limit times U; a dead one has no waiting entry"
-unfoldable pub healthSound : State → ℕ → Health → Bool
-healthSound s d (Live u) =
-    within 1 (settingsFor s d .limit) (u .window)
+-- "a live destination has window 1 to limit and both parts in 0 to U-1, with cohorts at most limit times U"
+unfoldable pub sumsFit : Settings → Sums → Bool
+sumsFit g u =
+    within 1 (g .limit) (u .window)
     && ltb (u .success) U
     && ltb (u .failure) U
-    && leb (u .cohorts) (settingsFor s d .cohortlimit * U)
+    && leb (u .cohorts) (g .cohortlimit * U)
+
+-- ".. ; a dead one has no waiting entry"
+unfoldable pub healthSound : State → ℕ → Health → Bool
+healthSound s d (Live u) = sumsFit (settingsFor s d) u
 healthSound s d (Dead end) = not (anyTo (λ e. isWaiting s e && eqb (destinationOf s e) d) maxEntries)
 
 unfoldable pub sound : State → Bool

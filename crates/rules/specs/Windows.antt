@@ -8,13 +8,14 @@ use Rattle.laws.specs.Choice.{if_then_else_}
 use Rattle.laws.specs.Range.{tableTo}
 use Rattle.rules.specs.declared.Feedback.{Feedback}
 use Rattle.rules.specs.declared.Settings.{Settings}
+use Rattle.rules.specs.declared.Setup.{Setup}
 use Rattle.rules.specs.declared.Sums.{Sums}
 use Rattle.rules.specs.declared.Health.{Health}
 use Rattle.rules.specs.declared.Health.the-variants.{Live, Dead}
 use Rattle.rules.specs.declared.Destination.{Destination}
 use Rattle.rules.specs.declared.State.{State}
 use Rattle.rules.specs.Sizes.{U, maxDestinations}
-use Rattle.rules.specs.State.{settingsFor, healthOf, zeroDestination}
+use Rattle.rules.specs.State.{at, zeroSettings, zeroDestination}
 use Rattle.rules.specs.Setup.{firstState}
 
 -- "Feedback of p percent is p·U/100 flat, or p·U/(100·window) per window"
@@ -72,11 +73,12 @@ unfoldable pub wokenHealth : Settings → ℕ → Health → Health
 wokenHealth g now (Live u) = Live u
 wokenHealth g now (Dead end) = if leb end now then Live (firstState g) else Dead end
 
-unfoldable pub wokenDestination : State → ℕ → ℕ → Destination
-wokenDestination s now d =
-    if ltb d (s .setup .destinations)
-    then record { health = wokenHealth (settingsFor s d) now (healthOf s d) }
-    else getD (s .destinations) d zeroDestination
+-- a destination after waking; past the set-up's destinations nothing is woken
+unfoldable pub wokenAt : List Destination → Setup → ℕ → ℕ → Destination
+wokenAt ds u now d =
+    if ltb d (u .destinations)
+    then record { health = wokenHealth (getD (u .settings) (at (u .home) d) zeroSettings) now (getD ds d zeroDestination .health) }
+    else getD ds d zeroDestination
 
 -- "Once accepted, each first wakes destinations": the state with this clock as the last accepted one, and all of them woken
 unfoldable pub woken : State → ℕ → State
@@ -86,7 +88,7 @@ woken s now =
       clock = now;
       ticket = s .ticket;
       turn = s .turn;
-      destinations = tableTo (wokenDestination s now) maxDestinations;
+      destinations = tableTo (wokenAt (s .destinations) (s .setup) now) maxDestinations;
       busy = s .busy;
       queues = s .queues;
       arrivals = s .arrivals;
