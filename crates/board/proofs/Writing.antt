@@ -1,0 +1,110 @@
+-- Laws of writers: one after another, each lent the rest of the buffer. General: for `laws`.
+use Prim.Native.Nat.{ℕ, suc, _+_, _-_, _≤_, _<_}
+use mathlib.Core.Path.{_≡_, refl, sym, ap, subst, _∙_}
+use mathlib.Core.List.{List, [], _∷_, _++_, append-assoc, append-nil}
+use native.Mathlib.Nat.{le-refl}
+use native.Mathlib.Numerals.{add-one}
+use native.Mathlib.Omega.{arith}
+use lib.ListN.{length, getD, take, drop, set, length-append, length-drop, drop-of-length-le}
+use lib.Seq.{take-suc, drop-cons, set-at, take-at, drop-at, drop-drop, drop-append-add, take-all, length-take-le}
+use borrow.Rule.Slice.PartMut.{putMid, midOf}
+use Rattle.board.specs.Wrote.{Wrote}
+
+pub wrote-length : {a e x : List ℕ} {r : ℕ} → Wrote a e x r → length a ≤ length e → length x ≡ length e
+wrote-length {a} {e} w l = ap length (w .bytes) ∙ simp (length-append, length-drop) (omega arith)
+
+module _ {a e x : List ℕ} {r : ℕ} (w : Wrote a e x r) where
+  front-is : take r x ≡ a
+  front-is = rw (w .count, w .bytes) (take-at a (drop (length a) e) (length a) refl)
+
+  back-is : drop r x ≡ drop (length a) e
+  back-is = rw (w .count, w .bytes) (drop-at a (drop (length a) e) (length a) refl)
+
+  rest-is : midOf r (length x - r) x ≡ drop (length a) e
+  rest-is = take-all (length x - r) (drop r x) (rw length-drop (le-refl _)) ∙ back-is
+
+  rest-length : length (midOf r (length x - r) x) ≡ length e - length a
+  rest-length = ap length rest-is ∙ length-drop (length a) e
+
+  -- a second text behind the first, by a writer that is lent the rest of the buffer
+  pub behind : {b z : List ℕ} {q : ℕ} → Wrote b (midOf r (length x - r) x) z q → Wrote (a ++ b) e (putMid r (length x - r) x z) (r + q)
+  behind {b} {z} v =
+      let n : z ++ drop (length x - r) (drop r x) ≡ b ++ drop (length b) (drop (length a) e) =
+      ap (λ l. z ++ l) (drop-of-length-le (drop r x) {i = length x - r} (rw length-drop (le-refl _))) ∙ append-nil z ∙ v .bytes ∙ ap (λ l. b ++ drop (length b) l) rest-is in
+      record {
+        count = simp length-append (omega (arith, w .count, v .count));
+        bytes = rw (front-is, n, length-append, ← drop-drop, append-assoc);
+      }
+
+  -- What lending the rest asks: that it starts within the buffer, that the second text has room there, and that its end is a number.
+
+  pub start-fits : length a ≤ length e → r ≤ length x
+  start-fits l = let n = wrote-length w l in omega (arith, w .count)
+
+  pub rest-fits : (b : List ℕ) → length (a ++ b) ≤ length e → length b ≤ length (midOf r (length x - r) x)
+  rest-fits b l = rw rest-length (let n = rw length-append at l in omega arith)
+
+  pub end-fits : {b z : List ℕ} {q : ℕ} → Wrote b (midOf r (length x - r) x) z q → length (a ++ b) ≤ length e → r + q ≤ length e
+  end-fits {b} v l = let n = rw length-append at l in omega (arith, w .count, v .count)
+
+-- The text so far may be counted from the buffer as a first writer left it.
+
+pub wrote-again : {a e x : List ℕ} {r : ℕ} → Wrote a e x r → Wrote a x x r
+wrote-again {a} {e} w = record { count = w .count; bytes = w .bytes ∙ ap (λ l. a ++ l) (sym (ap (drop (length a)) (w .bytes) ∙ drop-at a (drop (length a) e) (length a) refl)) }
+
+pub wrote-since : {a e x : List ℕ} {r : ℕ} (b : List ℕ) {y : List ℕ} {q : ℕ} → Wrote a e x r → Wrote (a ++ b) x y q → Wrote (a ++ b) e y q
+wrote-since {a} {e} b w v =
+    record {
+      count = v .count;
+      bytes = v .bytes ∙ ap (λ l. (a ++ b) ++ l) (rw (w .bytes, length-append, drop-append-add, drop-drop));
+    }
+
+-- a buffer with room for two texts has room for the first
+pub front-fits : (a b : List ℕ) {n : ℕ} → length (a ++ b) ≤ n → length a ≤ n
+front-fits a b l = let m = rw length-append at l in omega arith
+
+-- the same text under another name
+pub fits-as : {a b : List ℕ} {n : ℕ} → a ≡ b → length a ≤ n → length b ≤ n
+fits-as {n} h l = subst (λ t. length t ≤ n) h l
+
+pub wrote-as : {a b e x : List ℕ} {r : ℕ} → a ≡ b → Wrote a e x r → Wrote b e x r
+wrote-as {e} {x} {r} h w = subst (λ t. Wrote t e x r) h w
+
+-- Byte by byte.
+
+pub wrote-none : (e : List ℕ) → Wrote [] e e 0
+wrote-none e = record { count = refl; bytes = refl }
+
+pub wrote-one : {a e x : List ℕ} {r : ℕ} (v : ℕ) → Wrote a e x r → length a < length e → Wrote (a ++ (v ∷ [])) e (set x r v) (r + 1)
+wrote-one {a} {e} v w l =
+    record {
+      count = simp length-append (omega (arith, w .count));
+      bytes = rw (w .bytes, w .count, drop-cons e (length a) 0 l, append-assoc, length-append, add-one) (set-at a (getD e (length a) 0) (drop (suc (length a)) e) v (length a) refl);
+    }
+
+-- the first i bytes of a text are copied into a buffer that has room for it
+pub record Copied (text e x : List ℕ) (i : ℕ) : Type 0 where
+  pub wrote : Wrote (take i text) e x i
+  pub below : i ≤ length text
+  pub fits : length text ≤ length e
+
+pub copy-none : (text e : List ℕ) → length text ≤ length e → Copied text e e 0
+copy-none text e l = record { wrote = wrote-none e; below = omega arith; fits = l }
+
+module _ {text e x : List ℕ} {i : ℕ} (c : Copied text e x i) where
+  front-length : length (take i text) ≡ i
+  front-length = length-take-le i text (c .below)
+
+  pub copy-length : length x ≡ length e
+  copy-length = wrote-length (c .wrote) (omega (arith, front-length, c .below, c .fits))
+
+  pub copy-one : i < length text → Copied text e (set x i (getD text i 0)) (i + 1)
+  copy-one l =
+      record {
+        wrote = rw (add-one, take-suc text i 0 l, ← add-one) (wrote-one (getD text i 0) (c .wrote) (omega (arith, front-length, c .fits)));
+        below = omega arith;
+        fits = c .fits;
+      }
+
+  pub copy-all : length text ≤ i → Wrote text e x i
+  copy-all l = wrote-as (take-all i text l) (c .wrote)

@@ -1,0 +1,54 @@
+-- DEAD and the end second are put one behind the other. Assumes nothing.
+use borrow.Author.Needs.{needs}
+use Prim.Native.Nat.{_≤_}
+use native.Mathlib.Omega.{arith}
+use lib.ListN.{length}
+use Rattle.rules.specs.Board.{decimal, deadWord}
+use Rattle.board.proofs.Writing.{behind, start-fits, rest-fits, end-fits, front-fits}
+use Rattle.board.proofs.put_dead.Statement.{statement}
+use Rattle.board.proofs.put_dead.Tie as tie
+
+-- the buffer has room for the first parts too
+first : (c : tie.Start) → length deadWord ≤ length (c .args .buf .now)
+first c = front-fits deadWord (decimal (c .args .end)) (c .pre)
+
+slice-aggregate-put : tie.Need-slice-aggregate-put
+slice-aggregate-put c = search needs
+
+put-requires : tie.Need-put-requires
+put-requires c κs = first (c .before .before .before)
+
+sub-put-decimal : tie.Need-sub-put-decimal
+sub-put-decimal c = start-fits (c .before .before .put .ensures) (first (c .before .before .before .before .before .before))
+
+part-put-decimal-start : tie.Need-part-put-decimal-start
+part-put-decimal-start c = start-fits (c .before .before .put .ensures) (first (c .before .before .before .before .before .before))
+
+part-put-decimal-end : tie.Need-part-put-decimal-end
+part-put-decimal-end c = search needs
+
+put-decimal-requires : tie.Need-put-decimal-requires
+put-decimal-requires c κs = rest-fits (c .before .before .before .put .ensures) (decimal _) (c .before .before .before .before .before .before .before .pre)
+
+add-at : tie.Need-add-at
+add-at c = omega (arith, end-fits (c .before .before .before .before .before .before .put .ensures) (c .before .before .put-decimal .ensures) (c .before .before .before .before .before .before .before .before .before .before .pre), c .before .before .before .before .before .before .before .before .before .before .good)
+
+same-length : tie.Need-same-length
+same-length c = search needs
+
+returns : tie.Need-returns
+returns c = behind (c .before .before .before .before .before .before .put .ensures) (c .before .before .put-decimal .ensures)
+
+pub put-dead-spec : {M : Type 1} → statement M
+put-dead-spec =
+    tie.close
+    (tie.spec
+    slice-aggregate-put
+    put-requires
+    sub-put-decimal
+    part-put-decimal-start
+    part-put-decimal-end
+    put-decimal-requires
+    add-at
+    same-length
+    returns)

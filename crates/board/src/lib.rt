@@ -1,0 +1,162 @@
+// Document 01, "Board text".
+use rules::Destination;
+use rules::Health;
+ghost use mathlib.Core.Path.{_≡_};
+ghost use Prim.Native.Nat.{_≤_};
+ghost use lib.ListN.{length};
+ghost use Rattle.rules.specs.Board.{decimal, clockLine, healthText, destinationLine};
+ghost use Rattle.board.specs.Text.{liveText, deadText};
+ghost use Rattle.rules.specs.Board.{textOf};
+ghost use Rattle.board.specs.Wrote.{Wrote};
+
+// Puts a word at the front of a buffer that has room for it.
+fn put(word: &[u8], buf: &mut [u8]) -> usize
+    requires { ⌜ length (now word) ≤ length (now buf) ⌝ }
+    ensures { λ r. ⌜ Wrote (now (word .entry)) (now (buf .entry)) (now (buf .exit)) r ⌝ }
+{
+    let mut i: usize = 0;
+    while i < word.len() {
+        buf[i] = word[i];
+        i += 1;
+    }
+    i
+}
+
+// Puts a number's decimals there.
+fn put_decimal(x: u64, buf: &mut [u8]) -> usize
+    requires { ⌜ length (decimal x) ≤ length (now buf) ⌝ }
+    ensures { λ r. ⌜ Wrote (decimal x) (now (buf .entry)) (now (buf .exit)) r ⌝ }
+{
+    if x < 10 {
+        buf[0] = 48 + x as u8;
+        return 1;
+    }
+    let at = put_decimal(x / 10, buf);
+    buf[at] = 48 + (x % 10) as u8;
+    at + 1
+}
+
+// How many decimals a number has.
+fn decimal_length(x: u64) -> usize
+    ensures { λ r. ⌜ r ≡ length (decimal x) ⌝ }
+{
+    let mut n: usize = 1;
+    let mut y = x;
+    while 10 <= y {
+        y = y / 10;
+        n += 1;
+    }
+    n
+}
+
+// The first line: AT and the clock.
+fn put_clock(clock: u32, buf: &mut [u8]) -> usize
+    requires { ⌜ length (clockLine clock) ≤ length (now buf) ⌝ }
+    ensures { λ r. ⌜ Wrote (clockLine clock) (now (buf .entry)) (now (buf .exit)) r ⌝ }
+{
+    let mut at = put(b"AT ", buf);
+    at += put_decimal(clock as u64, &mut buf[at..]);
+    at += put(b"\n", &mut buf[at..]);
+    at
+}
+
+fn put_live(window: u64, busy: u16, buf: &mut [u8]) -> usize
+    requires { ⌜ length (liveText window busy) ≤ length (now buf) ⌝ }
+    ensures { λ r. ⌜ Wrote (liveText window busy) (now (buf .entry)) (now (buf .exit)) r ⌝ }
+{
+    let mut at = put(b" LIVE ", buf);
+    at += put_decimal(window, &mut buf[at..]);
+    at += put(b" ", &mut buf[at..]);
+    at += put_decimal(busy as u64, &mut buf[at..]);
+    at
+}
+
+fn put_dead(end: u64, buf: &mut [u8]) -> usize
+    requires { ⌜ length (deadText end) ≤ length (now buf) ⌝ }
+    ensures { λ r. ⌜ Wrote (deadText end) (now (buf .entry)) (now (buf .exit)) r ⌝ }
+{
+    let mut at = put(b" DEAD ", buf);
+    at += put_decimal(end, &mut buf[at..]);
+    at
+}
+
+// LIVE with window and busy, or DEAD with the end second.
+fn put_health(h: Health, busy: u16, buf: &mut [u8]) -> usize
+    requires { ⌜ length (healthText h busy) ≤ length (now buf) ⌝ }
+    ensures { λ r. ⌜ Wrote (healthText h busy) (now (buf .entry)) (now (buf .exit)) r ⌝ }
+{
+    match h {
+        Health::Live(u) => put_live(u.window, busy, buf),
+        Health::Dead(end) => put_dead(end, buf),
+    }
+}
+
+// One destination's line.
+fn put_line(d: u64, h: Health, busy: u16, buf: &mut [u8]) -> usize
+    requires { ⌜ length (destinationLine d h busy) ≤ length (now buf) ⌝ }
+    ensures { λ r. ⌜ Wrote (destinationLine d h busy) (now (buf .entry)) (now (buf .exit)) r ⌝ }
+{
+    let mut at = put(b"D ", buf);
+    at += put_decimal(d, &mut buf[at..]);
+    at += put_health(h, busy, &mut buf[at..]);
+    at += put(b"\n", &mut buf[at..]);
+    at
+}
+
+fn health_length(h: Health, busy: u16) -> usize
+    ensures { λ r. ⌜ r ≡ length (healthText h busy) ⌝ }
+{
+    match h {
+        Health::Live(u) => 6 + decimal_length(u.window) + 1 + decimal_length(busy as u64),
+        Health::Dead(end) => 6 + decimal_length(end),
+    }
+}
+
+fn line_length(d: u64, h: Health, busy: u16) -> usize
+    ensures { λ r. ⌜ r ≡ length (destinationLine d h busy) ⌝ }
+{
+    2 + decimal_length(d) + health_length(h, busy) + 1
+}
+
+// How long the text is. Of a state's own parts it is `boardText s` (`text-is` of proofs/); that there are at most 32
+// destinations, soundness says.
+pub fn text_length(clock: u32, count: u64, ds: [Destination; 32], busy: [u16; 32]) -> usize
+    requires { ⌜ count ≤ 32 ⌝ }
+    ensures { λ r. ⌜ r ≡ length (textOf clock count ds busy) ⌝ }
+{
+    let mut total = 3 + decimal_length(clock as u64) + 1;
+    let n = count as usize;
+    let mut d: usize = 0;
+    while d < n {
+        let x = ds[d];
+        let h = x.health;
+        let b = busy[d];
+        total += line_length(d as u64, h, b);
+        d += 1;
+    }
+    total
+}
+
+// Puts the text at the front of a buffer that has room for it, each line behind the ones already there; the answer is its length.
+pub fn write(
+    clock: u32,
+    count: u64,
+    ds: [Destination; 32],
+    busy: [u16; 32],
+    buf: &mut [u8],
+) -> usize
+    requires { ⌜ (count ≤ 32) × (length (textOf clock count ds busy) ≤ length (now buf)) ⌝ }
+    ensures { λ r. ⌜ Wrote (textOf clock count ds busy) (now (buf .entry)) (now (buf .exit)) r ⌝ }
+{
+    let mut at = put_clock(clock, buf);
+    let n = count as usize;
+    let mut d: usize = 0;
+    while d < n {
+        let x = ds[d];
+        let h = x.health;
+        let b = busy[d];
+        at += put_line(d as u64, h, b, &mut buf[at..]);
+        d += 1;
+    }
+    at
+}

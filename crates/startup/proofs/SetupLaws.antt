@@ -1,0 +1,64 @@
+-- The test of a set-up, and its first destinations, as the code goes about them.
+use Prim.Native.Nat.{ℕ, zero, suc, _+_, _≤_, _<_}
+use mathlib.Core.Bool.{Bool, true, false, not, _&&_}
+use mathlib.Core.Path.{_≡_, refl, sym, _∙_}
+use mathlib.Core.List.{List, _++_}
+use native.Mathlib.Numerals.{add-one}
+use native.Mathlib.Omega.{arith}
+use lib.ListN.{getD, set, drop, replicate}
+use lib.Dec.{ltb}
+use borrow.Author.Tests.{lt-ltb, le-ltb, not-true, not-false}
+use Rattle.laws.specs.Choice.{if_then_else_}
+use Rattle.laws.specs.Range.{allTo, tableTo}
+use Rattle.laws.proofs.Choice.{and-left, and-right}
+use Rattle.laws.proofs.Table.{table-drop}
+use Rattle.rules.specs.declared.Setup.{Setup}
+use Rattle.rules.specs.declared.Sums.{Sums}
+use Rattle.rules.specs.declared.Health.the-variants.{Live}
+use Rattle.rules.specs.declared.Destination.{Destination}
+use Rattle.rules.specs.State.{at, zeroSettings, zeroDestination}
+use Rattle.rules.specs.Setup.{within, settingsInRange, setupInRange, firstState, firstDestination}
+use Rattle.window.proofs.Ranges.{within-high}
+use Rattle.window.proofs.Fill.{table-rest}
+
+module _ (u : Setup) (a b : Bool) (ea : a ≡ within 1 4 (u .transports)) (eb : b ≡ within 1 32 (u .destinations)) where
+  pub setup-refused : not (a && b) ≡ true → false ≡ setupInRange u
+  unfolding setupInRange
+  setup-refused h = rw (← ea, ← eb, not-true (a && b) h)
+
+  pub transports-fit : not (a && b) ≡ false → u .transports ≤ 4
+  transports-fit h = within-high 1 4 (u .transports) (sym ea ∙ and-left a b (not-false (a && b) h))
+
+  pub destinations-fit : not (a && b) ≡ false → u .destinations ≤ 32
+  destinations-fit h = within-high 1 32 (u .destinations) (sym eb ∙ and-right a b (not-false (a && b) h))
+
+  pub setup-tested : (x y : Bool) → not (a && b) ≡ false → x ≡ allTo (λ t. settingsInRange (getD (u .settings) t zeroSettings)) (u .transports)
+      → y ≡ allTo (λ d. ltb (at (u .home) d) (u .transports)) (u .destinations) → x && y ≡ setupInRange u
+  unfolding setupInRange
+  setup-tested x y h ex ey = rw (← ea, ← eb, not-false (a && b) h, ex, ey)
+
+-- General: for `laws`.
+pub getD-repeated {ℓ} : {A : Type ℓ} (z : A) (n i : ℕ) → getD (replicate n z) i z ≡ z
+getD-repeated z zero i = refl
+getD-repeated z (suc n) zero = refl
+getD-repeated z (suc n) (suc i) = getD-repeated z n i
+
+module _ (u : Setup) where
+  -- the destinations with those below d in their first state, the others zeros
+  abbrev pub firstTo : ℕ → List Destination
+  firstTo d = tableTo (firstDestination u) d ++ drop d (replicate 32 zeroDestination)
+
+  pub first-none : (z : Destination) → z ≡ zeroDestination → replicate 32 z ≡ firstTo 0
+  unfolding tableTo
+  first-none z e = rw e
+
+  pub first-written : (d : ℕ) (ds : List Destination) (r : Sums) → ds ≡ firstTo d → d < u .destinations → d < 32
+      → r ≡ firstState (getD (u .settings) (at (u .home) d) zeroSettings) → set ds d (record { health = Live r }) ≡ firstTo (d + 1)
+  unfolding firstDestination if_then_else_
+  first-written d ds r n l h k =
+      let w : firstDestination u d ≡ record { health = Live r } = rw (lt-ltb d (u .destinations) l, k) in
+      rw (n, add-one) (rw w at (table-drop (firstDestination u) (replicate 32 zeroDestination) d h))
+
+  pub first-all : (d : ℕ) → d ≡ u .destinations → d ≤ 32 → firstTo d ≡ tableTo (firstDestination u) 32
+  unfolding firstDestination if_then_else_
+  first-all d e h = table-rest (firstDestination u) zeroDestination (replicate 32 zeroDestination) d h (λ i l. rw (le-ltb i (u .destinations) (omega arith)) (sym (getD-repeated zeroDestination 32 i)))

@@ -1,0 +1,86 @@
+-- One law for each case of a step's rule, as the code reaches it.
+use Prim.Native.Nat.{ℕ, _+_, _-_, _*_, _≤_, _<_, min, max}
+use mathlib.Core.Bool.{false}
+use mathlib.Core.Path.{_≡_}
+use lib.Dec.{leb}
+use borrow.Author.Tests.{lt-ltb, le-ltb, le-leb, lt-leb}
+use Rattle.laws.specs.Choice.{if_then_else_}
+use Rattle.rules.specs.declared.Settings.{Settings}
+use Rattle.rules.specs.declared.Sums.{Sums}
+use Rattle.rules.specs.declared.Health.{Health}
+use Rattle.rules.specs.declared.Health.the-variants.{Live, Dead}
+use Rattle.rules.specs.Sizes.{U}
+use Rattle.rules.specs.Setup.{firstState}
+use Rattle.window.specs.Waking.{isDue}
+use Rattle.rules.specs.Windows.{feedback, cohortShare, isDeadAt, raised, liveAfterSuccess, afterSuccess, lowered, liveAfterFailure, afterFailure, wokenHealth}
+
+abbrev pub sums : ℕ → ℕ → ℕ → ℕ → Sums
+sums window success failure cohorts = record { window = window; success = success; failure = failure; cohorts = cohorts }
+
+pub raised-below : (g : Settings) (u : Sums) (success : ℕ) → success < U → sums (u .window) success (u .failure) 0 ≡ raised g u success
+unfolding raised if_then_else_
+raised-below g u success l = rw (lt-leb U success l)
+
+pub raised-above : (g : Settings) (u : Sums) (success w : ℕ) → U ≤ success → w ≡ min (u .window + 1) (g .limit) → sums w (success - U) 0 0 ≡ raised g u success
+unfolding raised if_then_else_
+raised-above g u success w l e = rw (le-leb U success l, e)
+
+pub success-grows : (g : Settings) (busy : ℕ) (u r : Sums) (b : ℕ) → u .window < busy + g .initial → b ≡ feedback (g .positive) (u .window) → r ≡ raised g u (u .success + b) → r ≡ liveAfterSuccess g busy u
+unfolding liveAfterSuccess if_then_else_
+success-grows g busy u r b l e h = rw (lt-ltb (u .window) (busy + g .initial) l, ← e) h
+
+pub success-stays : (g : Settings) (busy : ℕ) (u : Sums) → busy + g .initial ≤ u .window → sums (u .window) (u .success) (u .failure) 0 ≡ liveAfterSuccess g busy u
+unfolding liveAfterSuccess if_then_else_
+success-stays g busy u l = rw (le-ltb (u .window) (busy + g .initial) l)
+
+pub success-live : (g : Settings) (busy : ℕ) (h : Health) (u r : Sums) → h ≡ Live u → r ≡ liveAfterSuccess g busy u → Live r ≡ afterSuccess g busy h
+unfolding afterSuccess
+success-live g busy h u r e k = rw (e, k)
+
+pub success-dead : (g : Settings) (busy : ℕ) (h : Health) (end : ℕ) (r : Sums) → h ≡ Dead end → r ≡ firstState g → Live r ≡ afterSuccess g busy h
+unfolding afterSuccess
+success-dead g busy h end r e k = rw (e, k)
+
+pub lowered-above : (u : Sums) (fall cohorts : ℕ) → fall ≤ u .failure → sums (u .window) (u .success) (u .failure - fall) cohorts ≡ lowered u fall cohorts
+unfolding lowered if_then_else_
+lowered-above u fall cohorts l = rw (le-ltb (u .failure) fall l)
+
+pub lowered-below : (u : Sums) (fall cohorts w : ℕ) → u .failure < fall → w ≡ max (u .window - 1) 1 → sums w 0 (u .failure + U - fall) cohorts ≡ lowered u fall cohorts
+unfolding lowered if_then_else_
+lowered-below u fall cohorts w l e = rw (lt-ltb (u .failure) fall l, e)
+
+pub failure-kills : (g : Settings) (now : ℕ) (u : Sums) (cohorts : ℕ) → g .cohortlimit * U < cohorts → Dead (now + g .suspension) ≡ liveAfterFailure g now u cohorts
+unfolding liveAfterFailure isDeadAt if_then_else_
+failure-kills g now u cohorts l = rw (lt-ltb (g .cohortlimit * U) cohorts l)
+
+pub failure-spares : (g : Settings) (now : ℕ) (u r : Sums) (cohorts b : ℕ) → cohorts ≤ g .cohortlimit * U → b ≡ feedback (g .negative) (u .window) → r ≡ lowered u b cohorts → Live r ≡ liveAfterFailure g now u cohorts
+unfolding liveAfterFailure isDeadAt if_then_else_
+failure-spares g now u r cohorts b l e h = rw (le-ltb (g .cohortlimit * U) cohorts l, ← e, h)
+
+pub failure-live : (g : Settings) (now : ℕ) (h r : Health) (u : Sums) (b : ℕ) → h ≡ Live u → b ≡ cohortShare (u .window) → r ≡ liveAfterFailure g now u (u .cohorts + b) → r ≡ afterFailure g now h
+unfolding afterFailure
+failure-live g now h r u b e k l = rw (e, ← k) l
+
+pub failure-dead : (g : Settings) (now : ℕ) (h : Health) (end : ℕ) → h ≡ Dead end → Dead end ≡ afterFailure g now h
+unfolding afterFailure
+failure-dead g now h end e = rw e
+
+pub woken-live : (g : Settings) (now : ℕ) (h : Health) (u : Sums) → h ≡ Live u → Live u ≡ wokenHealth g now h
+unfolding wokenHealth
+woken-live g now h u e = rw e
+
+pub woken-due : (g : Settings) (now : ℕ) (h : Health) (end : ℕ) (r : Sums) → h ≡ Dead end → end ≤ now → r ≡ firstState g → Live r ≡ wokenHealth g now h
+unfolding wokenHealth if_then_else_
+woken-due g now h end r e l k = rw (e, le-leb end now l, k)
+
+pub woken-later : (g : Settings) (now : ℕ) (h : Health) (end : ℕ) → h ≡ Dead end → now < end → Dead end ≡ wokenHealth g now h
+unfolding wokenHealth if_then_else_
+woken-later g now h end e l = rw (e, lt-leb end now l)
+
+pub due-live : (h : Health) (u : Sums) (now : ℕ) → h ≡ Live u → false ≡ isDue h now
+unfolding isDue
+due-live h u now e = rw e
+
+pub due-dead : (h : Health) (end now : ℕ) → h ≡ Dead end → leb end now ≡ isDue h now
+unfolding isDue
+due-dead h end now e = rw e

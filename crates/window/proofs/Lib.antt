@@ -1,0 +1,5 @@
+pub mod Fill
+pub mod Ranges
+pub mod Cases
+pub mod WindowLaws
+pub mod WakingLaws

@@ -1,0 +1,215 @@
+// Document 01, "Windows", and the waking of "Time and tickets".
+use rules::Destination;
+use rules::Feedback;
+use rules::Health;
+use rules::Settings;
+use rules::Setup;
+use rules::Sums;
+ghost use mathlib.Core.Path.{_≡_};
+ghost use mathlib.Core.Bool.{true};
+ghost use Prim.Native.Nat.{_≤_, _<_, min, max};
+ghost use Rattle.rules.specs.Sizes.{U};
+ghost use Rattle.rules.specs.Setup.{feedbackInRange, settingsInRange, setupInRange, firstState};
+ghost use Rattle.rules.specs.Windows.{feedback, cohortShare, raised, liveAfterSuccess, afterSuccess};
+ghost use Rattle.rules.specs.Windows.{lowered, liveAfterFailure, afterFailure, wokenHealth};
+ghost use Rattle.window.specs.Fits.{healthFits};
+ghost use Rattle.rules.specs.Sound.{sumsFit};
+ghost use Rattle.window.specs.Waking.{isDue};
+ghost use Rattle.rules.specs.Windows.{wokenAt};
+ghost use Rattle.laws.specs.Range.{tableTo};
+
+// The parts that stand for 1.
+const U: u64 = 23_279_256_000;
+
+// The feedback at a window. That it is in range, and the window 1 to 20, soundness gives for a live destination.
+pub fn feedback(f: Feedback, window: u64) -> u64
+    requires { ⌜ (feedbackInRange f ≡ true) × (1 ≤ window) × (window ≤ 20) ⌝ }
+    ensures { λ r. ⌜ r ≡ feedback f window ⌝ }
+{
+    let parts = f.percent * U;
+    if f.form == 0 {
+        parts / 100
+    } else {
+        parts / (100 * window)
+    }
+}
+
+// The share of a cohort that one failure is, at a live destination's window.
+pub fn cohort_share(window: u64) -> u64
+    requires { ⌜ 1 ≤ window ⌝ }
+    ensures { λ r. ⌜ r ≡ cohortShare window ⌝ }
+{
+    U / window
+}
+
+// A destination's first state.
+pub fn first_state(g: Settings) -> Sums
+    ensures { λ r. ⌜ r ≡ firstState g ⌝ }
+{
+    Sums {
+        window: g.initial,
+        success: 0,
+        failure: 0,
+        cohorts: 0,
+    }
+}
+
+fn least(a: u64, b: u64) -> u64
+    ensures { λ r. ⌜ r ≡ min a b ⌝ }
+{
+    if a <= b { a } else { b }
+}
+
+fn greatest(a: u64, b: u64) -> u64
+    ensures { λ r. ⌜ r ≡ max a b ⌝ }
+{
+    if a <= b { b } else { a }
+}
+
+// The sums with this success: at U or more the window grows. A live window is at most 20.
+fn raised(g: Settings, u: Sums, success: u64) -> Sums
+    requires { ⌜ u .window ≤ 20 ⌝ }
+    ensures { λ r. ⌜ r ≡ raised g u success ⌝ }
+{
+    if success < U {
+        return Sums {
+            window: u.window,
+            success: success,
+            failure: u.failure,
+            cohorts: 0,
+        };
+    }
+    Sums {
+        window: least(u.window + 1, g.limit),
+        success: success - U,
+        failure: 0,
+        cohorts: 0,
+    }
+}
+
+// A live destination after a success, under what `after_success` asks.
+fn live_after_success(g: Settings, busy: u64, u: Sums) -> Sums
+    requires { ⌜ (settingsInRange g ≡ true) × (sumsFit g u ≡ true) × (busy ≤ 512) ⌝ }
+    ensures { λ r. ⌜ r ≡ liveAfterSuccess g busy u ⌝ }
+{
+    if u.window < busy + g.initial {
+        let f = g.positive;
+        return raised(g, u, u.success + feedback(f, u.window));
+    }
+    Sums {
+        window: u.window,
+        success: u.success,
+        failure: u.failure,
+        cohorts: 0,
+    }
+}
+
+// A destination after a success; busy still counts this delivery. Soundness gives that the settings are in range, that the
+// destination fits them, and that no more than 512 entries are busy.
+pub fn after_success(g: Settings, busy: u64, h: Health) -> Health
+    requires { ⌜ (settingsInRange g ≡ true) × (healthFits g h ≡ true) × (busy ≤ 512) ⌝ }
+    ensures { λ r. ⌜ r ≡ afterSuccess g busy h ⌝ }
+{
+    match h {
+        Health::Live(u) => Health::Live(live_after_success(g, busy, u)),
+        Health::Dead(_) => Health::Live(first_state(g)),
+    }
+}
+
+// The sums with this fall of failure, and these cohorts: below 0 the window falls, to no less than 1. Both bounds are soundness.
+fn lowered(u: Sums, fall: u64, cohorts: u64) -> Sums
+    requires { ⌜ (u .failure < U) × (fall ≤ U) ⌝ }
+    ensures { λ r. ⌜ r ≡ lowered u fall cohorts ⌝ }
+{
+    if fall <= u.failure {
+        return Sums {
+            window: u.window,
+            success: u.success,
+            failure: u.failure - fall,
+            cohorts: cohorts,
+        };
+    }
+    Sums {
+        window: greatest(u.window, 2) - 1,
+        success: 0,
+        failure: u.failure + U - fall,
+        cohorts: cohorts,
+    }
+}
+
+// A live destination after a failure that brings it to these cohorts, under what `after_failure` asks.
+fn live_after_failure(g: Settings, now: u64, u: Sums, cohorts: u64) -> Health
+    requires { ⌜ (settingsInRange g ≡ true) × (sumsFit g u ≡ true) × (now ≤ 4294967295) ⌝ }
+    ensures { λ r. ⌜ r ≡ liveAfterFailure g now u cohorts ⌝ }
+{
+    if g.cohortlimit * U < cohorts {
+        return Health::Dead(now + g.suspension);
+    }
+    let f = g.negative;
+    let fall = feedback(f, u.window);
+    Health::Live(lowered(u, fall, cohorts))
+}
+
+// A destination after a failure. The clock is at most 2^32-1 by its own test; the rest is soundness.
+pub fn after_failure(g: Settings, now: u64, h: Health) -> Health
+    requires { ⌜ (settingsInRange g ≡ true) × (healthFits g h ≡ true) × (now ≤ 4294967295) ⌝ }
+    ensures { λ r. ⌜ r ≡ afterFailure g now h ⌝ }
+{
+    match h {
+        Health::Live(u) => {
+            let cohorts = u.cohorts + cohort_share(u.window);
+            live_after_failure(g, now, u, cohorts)
+        }
+        Health::Dead(end) => Health::Dead(end),
+    }
+}
+
+// A dead destination whose suspension ends at or before now is in its first state; any other is as it was.
+pub fn woken_health(g: Settings, now: u64, h: Health) -> Health
+    ensures { λ r. ⌜ r ≡ wokenHealth g now h ⌝ }
+{
+    match h {
+        Health::Live(u) => Health::Live(u),
+        Health::Dead(end) => {
+            if end <= now {
+                Health::Live(first_state(g))
+            } else {
+                Health::Dead(end)
+            }
+        }
+    }
+}
+
+// A dead destination whose suspension ends at or before now.
+fn is_due(h: Health, now: u64) -> bool
+    ensures { λ r. ⌜ r ≡ isDue h now ⌝ }
+{
+    match h {
+        Health::Live(_) => false,
+        Health::Dead(end) => end <= now,
+    }
+}
+
+// All destinations of a set-up in range, woken. Of a state's own this is `woken s now .destinations` (`woken-is` of proofs/).
+// Only what wakes is written.
+pub fn wake(ds: [Destination; 32], u: Setup, now: u64) -> [Destination; 32]
+    requires { ⌜ setupInRange u ≡ true ⌝ }
+    ensures { λ r. ⌜ r ≡ tableTo (wokenAt ds u now) 32 ⌝ }
+{
+    let mut next = ds;
+    let count = u.destinations as usize;
+    let mut d: usize = 0;
+    while d < count {
+        let x = ds[d];
+        let h = x.health;
+        if is_due(h, now) {
+            let t = u.home[d] as usize;
+            let g = u.settings[t];
+            next[d] = Destination {
+                health: Health::Live(first_state(g)),
+            };
+        }
+        d += 1;
+    }
+    next
+}
