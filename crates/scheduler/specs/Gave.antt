@@ -1,0 +1,32 @@
+-- What a public call gave back, in the paper's numbers, beside what stands in its lent buffer: to be compared with the rules' reply.
+use Prim.Native.Nat.{ℕ}
+use mathlib.Core.List.{List, []}
+use Rattle.rules.specs.declared.State.{State}
+use Rattle.rules.specs.declared.SetupReply.{SetupReply}
+use Rattle.rules.specs.declared.JobReply.{JobReply}
+use Rattle.rules.specs.declared.PickReply.{PickReply}
+use Rattle.rules.specs.declared.ReportReply.{ReportReply}
+use Rattle.rules.specs.declared.AskAnswer.{AskAnswer}
+use Rattle.rules.specs.declared.BoardAnswer.{BoardAnswer}
+use Rattle.rules.specs.Calls.{Reply}
+use Rattle.rules.specs.Answers.{setupSays, jobSays, pickSays, reportSays, askSays, boardSays}
+
+abbrev pub setupGave : SetupReply → Reply
+setupGave r = record { says = setupSays (r .answer); state = r .state; buffer = [] }
+
+abbrev pub jobGave : JobReply → List ℕ → Reply
+jobGave r list = record { says = jobSays (r .answer); state = r .state; buffer = list }
+
+abbrev pub pickGave : PickReply → Reply
+pickGave r = record { says = pickSays (r .answer); state = r .state; buffer = [] }
+
+abbrev pub reportGave : ReportReply → List ℕ → Reply
+reportGave r list = record { says = reportSays (r .answer); state = r .state; buffer = list }
+
+-- asking and the board text take the state by value and hand none back: it is the caller's, as it was
+
+abbrev pub askGave : AskAnswer → State → Reply
+askGave a s = record { says = askSays a; state = s; buffer = [] }
+
+abbrev pub boardGave : BoardAnswer → State → List ℕ → Reply
+boardGave a s buffer = record { says = boardSays a; state = s; buffer = buffer }

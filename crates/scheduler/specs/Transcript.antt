@@ -1,0 +1,48 @@
+-- What was seen of a run of the program: the set-up, then each call with the state that it was handed and what it gave back.
+use Prim.Native.Nat.{ℕ}
+use mathlib.Core.Path.{_≡_}
+use mathlib.Core.Bool.{true}
+use mathlib.Core.List.{List, [], _∷_, map}
+use Rattle.rules.specs.declared.Setup.{Setup}
+use Rattle.rules.specs.declared.State.{State}
+use Rattle.rules.specs.declared.SetupReply.{SetupReply}
+use Rattle.rules.specs.Setup.{setupInRange, freshState}
+use Rattle.rules.specs.Calls.{Reply, Call, job, pick, report, ask, board, setupReply, jobReply, pickReply, reportReply, askReply, boardReply}
+use Rattle.rules.specs.Run.{repliesFrom}
+use Rattle.rules.specs.Demand3.{Demand3, Companions}
+use Rattle.scheduler.specs.Gave.{setupGave}
+
+-- one call: its arguments, the state that it was handed, and what it gave back
+pub record Step : Type 0 where
+  pub call : Call
+  pub handed : State
+  pub gave : Reply
+
+-- what the contract of the function called says of what it gave
+abbrev pub Kept : Call → State → Reply → Type 0
+Kept (job now t dests list) s g = g ≡ jobReply s now t dests list
+Kept (pick now) s g = g ≡ pickReply s now
+Kept (report now e ticket outcome list) s g = g ≡ reportReply s now e ticket outcome list
+Kept (ask j) s g = g ≡ askReply s j
+Kept (board buffer) s g = g ≡ boardReply s buffer
+
+-- the first call is handed this state, each later one the state as the call before left it
+abbrev pub Follows : State → List Step → Type 0
+Follows s [] = Unit {0}
+Follows s (x ∷ xs) = (x .handed ≡ s) × Kept (x .call) (x .handed) (x .gave) × Follows (x .gave .state) xs
+
+pub record Transcript (u : Setup) (start : SetupReply) (steps : List Step) : Type 0 where
+  -- what the contract of set-up says, and that it was accepted
+  pub set : setupGave start ≡ setupReply u
+  pub accepted : setupInRange u ≡ true
+  pub follows : Follows (start .state) steps
+
+abbrev pub callsOf : List Step → List Call
+callsOf = map (λ x. x .call)
+
+-- demand 3, said of the program: of every transcript
+pub record Holds (u : Setup) (steps : List Step) : Type 0 where
+  -- every answer, and every lent buffer after its call, is what the rules give for the same set-up and calls
+  pub replies : map (λ x. x .gave) steps ≡ repliesFrom (freshState u) (callsOf steps)
+  pub demand3 : Demand3 u (callsOf steps)
+  pub companions : Companions u (callsOf steps)
