@@ -19,7 +19,7 @@ use Rattle.rules.specs.Pick.{Found, Picked, picking}
 use Rattle.rules.specs.Reporting.{Reported, reporting}
 use Rattle.rules.specs.Refusals.{jobRefusal, pickRefusal, reportRefusal, askRefusal, boardRefusal}
 use Rattle.rules.specs.Calls.{Says, Reply, Decision, nothing, took, picked, putOff, Call, job, pick, report, ask, board, unlessRefused, decidedUnless}
-use Rattle.rules.specs.Calls.{takingReply, takingDecision, jobReply, jobDecision, pickingReply, pickingDecision, pickReply, pickDecision, reportingReply}
+use Rattle.rules.specs.Calls.{takingReply, takingDecision, jobReply, jobDecision, pickingReply, afterPick, pickingDecision, pickReply, pickDecision, reportingReply}
 use Rattle.rules.specs.Calls.{reportReply, reportDecision, askReply, boardReply, replyTo, decisionOn}
 use Rattle.rules.proofs.Taken.{Passed}
 use Rattle.rules.proofs.Accepted.{GoodClock, JobAccepted, job-accepted, passed-of, PickAccepted, pick-accepted, ReportAccepted, report-accepted}
@@ -59,12 +59,8 @@ module _ {ℓ} (P : State → Decision → Type ℓ) (s : State) (stays : P s no
         some h = omega arith
 
     picking-case : (now : ℕ) → PickAccepted s now
-        → P
-        ((if finds (woken s now)
-        then pickingReply (woken s now) (picking (woken s now) now)
-        else record { says = record { refusal = 0; values = 0 ∷ [] }; state = woken s now; buffer = [] }) .state)
-        (if finds (woken s now) then pickingDecision (picking (woken s now) now .found) else nothing)
-    unfolding pickingReply
+        → P (afterPick (woken s now) now .state) (if finds (woken s now) then pickingDecision (picking (woken s now) now .found) else nothing)
+    unfolding afterPick pickingReply
     picking-case now a =
         either (finds (woken s now)) _ _ (pickingDecision (picking (woken s now) now .found)) nothing (picks now (a .clock)) (λ h. wakes now (a .clock))
 

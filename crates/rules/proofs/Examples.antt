@@ -18,36 +18,36 @@ use Rattle.rules.specs.Preemption.{credit, hasCredit, owned, affordable,
 use Rattle.rules.specs.Pick.{handedOut, pickFrom, pickWith, pickOn, picking}
 use Rattle.rules.specs.Reporting.{reportedHealth, dies, isPutOff, putOffEntries, putOffOf, kindAfter, settled, stays, parentAfter, departed, reportedAt, reporting}
 use Rattle.rules.specs.Refusals.{badClock, isDestinationOn, lacksNumber, lacksPlaces, isBusyWith, setupRefusal, jobRefusal, pickRefusal, reportRefusal}
-use Rattle.rules.specs.Calls.{job, unlessRefused, setupReply, takingReply, jobReply, pickingReply, pickReply, reportingReply, reportReply, replyTo}
+use Rattle.rules.specs.Calls.{job, unlessRefused, setupReply, takingReply, jobReply, pickingReply, afterPick, pickReply, reportingReply, reportReply, replyTo}
 use Rattle.rules.specs.Run.{stateFrom}
 use Rattle.rules.specs.Examples.{shownHealth, windowOrDead, windowsFailing, succeeded, served, flat, perWindow, usual, sums, buffer, jobTo0, after, pickedJob, pickedDestination, pickedAt, Worked}
 
 w8-holds : served pickedJob 0 4 (after 1 (jobTo0 0 20 ∷ jobTo0 0 2 ∷ [])) ≡ 0 ∷ 1 ∷ 1 ∷ 0 ∷ []
-unfolding if_then_else_ one allTo anyTo countTo firstTo chosenTo tableTo foldTo keep holds firstOf upTo insertBefore moveBefore padded everyIn countIn holdsEachOnce neverFalling firstsTo timesIn alongChain endsIn firstAlong isLive windowOf waitsOf busyOf usedOf waitingOf within feedbackInRange slotsInRange windowsInRange settingsInRange setupInRange emptyState firstDestination freshState feedback cohortShare isDeadAt raised liveAfterSuccess afterSuccess lowered liveAfterFailure afterFailure wokenHealth wokenAt woken implies belongs entrySound busyOn busyTo busySound isJobOn queueSound arrivalsSound orderOf orderSound countsSound soldSound childOf jobSound sumsFit healthSound sound isDead putOffPositions keptOf nOf newNumber freePlaces filled newOrder withOrder taken hasRoom hasAgent eligible eligibleOn eligibleOf eligibleTo hasEligible stepsTo transportSteps finds nextTransport currentJob passedOver nextPlace nextEntry credit hasCredit owned affordable isCandidate beats better bestCandidate paysFor paysForBest isPreempted preemptorOf addedTo charged preempting handedOut pickFrom pickWith pickOn picking reportedHealth dies isPutOff putOffEntries putOffOf kindAfter settled stays parentAfter departed reportedAt reporting badClock isDestinationOn lacksNumber lacksPlaces isBusyWith setupRefusal jobRefusal pickRefusal reportRefusal unlessRefused setupReply takingReply jobReply pickingReply pickReply reportingReply reportReply replyTo stateFrom shownHealth windowOrDead windowsFailing succeeded served
+unfolding if_then_else_ one allTo anyTo countTo firstTo chosenTo tableTo foldTo keep holds firstOf upTo insertBefore moveBefore padded everyIn countIn holdsEachOnce neverFalling firstsTo timesIn alongChain endsIn firstAlong isLive windowOf waitsOf busyOf usedOf waitingOf within feedbackInRange slotsInRange windowsInRange settingsInRange setupInRange emptyState firstDestination freshState feedback cohortShare isDeadAt raised liveAfterSuccess afterSuccess lowered liveAfterFailure afterFailure wokenHealth wokenAt woken implies belongs entrySound busyOn busyTo busySound isJobOn queueSound arrivalsSound orderOf orderSound countsSound soldSound childOf jobSound sumsFit healthSound sound isDead putOffPositions keptOf nOf newNumber freePlaces filled newOrder withOrder taken hasRoom hasAgent eligible eligibleOn eligibleOf eligibleTo hasEligible stepsTo transportSteps finds nextTransport currentJob passedOver nextPlace nextEntry credit hasCredit owned affordable isCandidate beats better bestCandidate paysFor paysForBest isPreempted preemptorOf addedTo charged preempting handedOut pickFrom pickWith pickOn picking reportedHealth dies isPutOff putOffEntries putOffOf kindAfter settled stays parentAfter departed reportedAt reporting badClock isDestinationOn lacksNumber lacksPlaces isBusyWith setupRefusal jobRefusal pickRefusal reportRefusal unlessRefused setupReply takingReply jobReply pickingReply afterPick pickReply reportingReply reportReply replyTo stateFrom shownHealth windowOrDead windowsFailing succeeded served
 w8-holds = refl
 
 w9-holds : served pickedJob 0 2 (after 1 (jobTo0 0 14 ∷ jobTo0 0 2 ∷ [])) ≡ 0 ∷ 0 ∷ []
-unfolding if_then_else_ one allTo anyTo countTo firstTo chosenTo tableTo foldTo keep holds firstOf upTo insertBefore moveBefore padded everyIn countIn holdsEachOnce neverFalling firstsTo timesIn alongChain endsIn firstAlong isLive windowOf waitsOf busyOf usedOf waitingOf within feedbackInRange slotsInRange windowsInRange settingsInRange setupInRange emptyState firstDestination freshState feedback cohortShare isDeadAt raised liveAfterSuccess afterSuccess lowered liveAfterFailure afterFailure wokenHealth wokenAt woken implies belongs entrySound busyOn busyTo busySound isJobOn queueSound arrivalsSound orderOf orderSound countsSound soldSound childOf jobSound sumsFit healthSound sound isDead putOffPositions keptOf nOf newNumber freePlaces filled newOrder withOrder taken hasRoom hasAgent eligible eligibleOn eligibleOf eligibleTo hasEligible stepsTo transportSteps finds nextTransport currentJob passedOver nextPlace nextEntry credit hasCredit owned affordable isCandidate beats better bestCandidate paysFor paysForBest isPreempted preemptorOf addedTo charged preempting handedOut pickFrom pickWith pickOn picking reportedHealth dies isPutOff putOffEntries putOffOf kindAfter settled stays parentAfter departed reportedAt reporting badClock isDestinationOn lacksNumber lacksPlaces isBusyWith setupRefusal jobRefusal pickRefusal reportRefusal unlessRefused setupReply takingReply jobReply pickingReply pickReply reportingReply reportReply replyTo stateFrom shownHealth windowOrDead windowsFailing succeeded served
+unfolding if_then_else_ one allTo anyTo countTo firstTo chosenTo tableTo foldTo keep holds firstOf upTo insertBefore moveBefore padded everyIn countIn holdsEachOnce neverFalling firstsTo timesIn alongChain endsIn firstAlong isLive windowOf waitsOf busyOf usedOf waitingOf within feedbackInRange slotsInRange windowsInRange settingsInRange setupInRange emptyState firstDestination freshState feedback cohortShare isDeadAt raised liveAfterSuccess afterSuccess lowered liveAfterFailure afterFailure wokenHealth wokenAt woken implies belongs entrySound busyOn busyTo busySound isJobOn queueSound arrivalsSound orderOf orderSound countsSound soldSound childOf jobSound sumsFit healthSound sound isDead putOffPositions keptOf nOf newNumber freePlaces filled newOrder withOrder taken hasRoom hasAgent eligible eligibleOn eligibleOf eligibleTo hasEligible stepsTo transportSteps finds nextTransport currentJob passedOver nextPlace nextEntry credit hasCredit owned affordable isCandidate beats better bestCandidate paysFor paysForBest isPreempted preemptorOf addedTo charged preempting handedOut pickFrom pickWith pickOn picking reportedHealth dies isPutOff putOffEntries putOffOf kindAfter settled stays parentAfter departed reportedAt reporting badClock isDestinationOn lacksNumber lacksPlaces isBusyWith setupRefusal jobRefusal pickRefusal reportRefusal unlessRefused setupReply takingReply jobReply pickingReply afterPick pickReply reportingReply reportReply replyTo stateFrom shownHealth windowOrDead windowsFailing succeeded served
 w9-holds = refl
 
 w9b-holds : served pickedJob 0 2 (after 1 (jobTo0 0 15 ∷ jobTo0 0 2 ∷ [])) ≡ 0 ∷ 1 ∷ []
-unfolding if_then_else_ one allTo anyTo countTo firstTo chosenTo tableTo foldTo keep holds firstOf upTo insertBefore moveBefore padded everyIn countIn holdsEachOnce neverFalling firstsTo timesIn alongChain endsIn firstAlong isLive windowOf waitsOf busyOf usedOf waitingOf within feedbackInRange slotsInRange windowsInRange settingsInRange setupInRange emptyState firstDestination freshState feedback cohortShare isDeadAt raised liveAfterSuccess afterSuccess lowered liveAfterFailure afterFailure wokenHealth wokenAt woken implies belongs entrySound busyOn busyTo busySound isJobOn queueSound arrivalsSound orderOf orderSound countsSound soldSound childOf jobSound sumsFit healthSound sound isDead putOffPositions keptOf nOf newNumber freePlaces filled newOrder withOrder taken hasRoom hasAgent eligible eligibleOn eligibleOf eligibleTo hasEligible stepsTo transportSteps finds nextTransport currentJob passedOver nextPlace nextEntry credit hasCredit owned affordable isCandidate beats better bestCandidate paysFor paysForBest isPreempted preemptorOf addedTo charged preempting handedOut pickFrom pickWith pickOn picking reportedHealth dies isPutOff putOffEntries putOffOf kindAfter settled stays parentAfter departed reportedAt reporting badClock isDestinationOn lacksNumber lacksPlaces isBusyWith setupRefusal jobRefusal pickRefusal reportRefusal unlessRefused setupReply takingReply jobReply pickingReply pickReply reportingReply reportReply replyTo stateFrom shownHealth windowOrDead windowsFailing succeeded served
+unfolding if_then_else_ one allTo anyTo countTo firstTo chosenTo tableTo foldTo keep holds firstOf upTo insertBefore moveBefore padded everyIn countIn holdsEachOnce neverFalling firstsTo timesIn alongChain endsIn firstAlong isLive windowOf waitsOf busyOf usedOf waitingOf within feedbackInRange slotsInRange windowsInRange settingsInRange setupInRange emptyState firstDestination freshState feedback cohortShare isDeadAt raised liveAfterSuccess afterSuccess lowered liveAfterFailure afterFailure wokenHealth wokenAt woken implies belongs entrySound busyOn busyTo busySound isJobOn queueSound arrivalsSound orderOf orderSound countsSound soldSound childOf jobSound sumsFit healthSound sound isDead putOffPositions keptOf nOf newNumber freePlaces filled newOrder withOrder taken hasRoom hasAgent eligible eligibleOn eligibleOf eligibleTo hasEligible stepsTo transportSteps finds nextTransport currentJob passedOver nextPlace nextEntry credit hasCredit owned affordable isCandidate beats better bestCandidate paysFor paysForBest isPreempted preemptorOf addedTo charged preempting handedOut pickFrom pickWith pickOn picking reportedHealth dies isPutOff putOffEntries putOffOf kindAfter settled stays parentAfter departed reportedAt reporting badClock isDestinationOn lacksNumber lacksPlaces isBusyWith setupRefusal jobRefusal pickRefusal reportRefusal unlessRefused setupReply takingReply jobReply pickingReply afterPick pickReply reportingReply reportReply replyTo stateFrom shownHealth windowOrDead windowsFailing succeeded served
 w9b-holds = refl
 
 w10-holds : pickedAt 13 ≡ 1
-unfolding if_then_else_ one allTo anyTo countTo firstTo chosenTo tableTo foldTo keep holds firstOf upTo insertBefore moveBefore padded everyIn countIn holdsEachOnce neverFalling firstsTo timesIn alongChain endsIn firstAlong isLive windowOf waitsOf busyOf usedOf waitingOf within feedbackInRange slotsInRange windowsInRange settingsInRange setupInRange emptyState firstDestination freshState feedback cohortShare isDeadAt raised liveAfterSuccess afterSuccess lowered liveAfterFailure afterFailure wokenHealth wokenAt woken implies belongs entrySound busyOn busyTo busySound isJobOn queueSound arrivalsSound orderOf orderSound countsSound soldSound childOf jobSound sumsFit healthSound sound isDead putOffPositions keptOf nOf newNumber freePlaces filled newOrder withOrder taken hasRoom hasAgent eligible eligibleOn eligibleOf eligibleTo hasEligible stepsTo transportSteps finds nextTransport currentJob passedOver nextPlace nextEntry credit hasCredit owned affordable isCandidate beats better bestCandidate paysFor paysForBest isPreempted preemptorOf addedTo charged preempting handedOut pickFrom pickWith pickOn picking reportedHealth dies isPutOff putOffEntries putOffOf kindAfter settled stays parentAfter departed reportedAt reporting badClock isDestinationOn lacksNumber lacksPlaces isBusyWith setupRefusal jobRefusal pickRefusal reportRefusal unlessRefused setupReply takingReply jobReply pickingReply pickReply reportingReply reportReply replyTo stateFrom shownHealth windowOrDead windowsFailing succeeded served
+unfolding if_then_else_ one allTo anyTo countTo firstTo chosenTo tableTo foldTo keep holds firstOf upTo insertBefore moveBefore padded everyIn countIn holdsEachOnce neverFalling firstsTo timesIn alongChain endsIn firstAlong isLive windowOf waitsOf busyOf usedOf waitingOf within feedbackInRange slotsInRange windowsInRange settingsInRange setupInRange emptyState firstDestination freshState feedback cohortShare isDeadAt raised liveAfterSuccess afterSuccess lowered liveAfterFailure afterFailure wokenHealth wokenAt woken implies belongs entrySound busyOn busyTo busySound isJobOn queueSound arrivalsSound orderOf orderSound countsSound soldSound childOf jobSound sumsFit healthSound sound isDead putOffPositions keptOf nOf newNumber freePlaces filled newOrder withOrder taken hasRoom hasAgent eligible eligibleOn eligibleOf eligibleTo hasEligible stepsTo transportSteps finds nextTransport currentJob passedOver nextPlace nextEntry credit hasCredit owned affordable isCandidate beats better bestCandidate paysFor paysForBest isPreempted preemptorOf addedTo charged preempting handedOut pickFrom pickWith pickOn picking reportedHealth dies isPutOff putOffEntries putOffOf kindAfter settled stays parentAfter departed reportedAt reporting badClock isDestinationOn lacksNumber lacksPlaces isBusyWith setupRefusal jobRefusal pickRefusal reportRefusal unlessRefused setupReply takingReply jobReply pickingReply afterPick pickReply reportingReply reportReply replyTo stateFrom shownHealth windowOrDead windowsFailing succeeded served
 w10-holds = refl
 
 w10b-holds : pickedAt 14 ≡ 2
-unfolding if_then_else_ one allTo anyTo countTo firstTo chosenTo tableTo foldTo keep holds firstOf upTo insertBefore moveBefore padded everyIn countIn holdsEachOnce neverFalling firstsTo timesIn alongChain endsIn firstAlong isLive windowOf waitsOf busyOf usedOf waitingOf within feedbackInRange slotsInRange windowsInRange settingsInRange setupInRange emptyState firstDestination freshState feedback cohortShare isDeadAt raised liveAfterSuccess afterSuccess lowered liveAfterFailure afterFailure wokenHealth wokenAt woken implies belongs entrySound busyOn busyTo busySound isJobOn queueSound arrivalsSound orderOf orderSound countsSound soldSound childOf jobSound sumsFit healthSound sound isDead putOffPositions keptOf nOf newNumber freePlaces filled newOrder withOrder taken hasRoom hasAgent eligible eligibleOn eligibleOf eligibleTo hasEligible stepsTo transportSteps finds nextTransport currentJob passedOver nextPlace nextEntry credit hasCredit owned affordable isCandidate beats better bestCandidate paysFor paysForBest isPreempted preemptorOf addedTo charged preempting handedOut pickFrom pickWith pickOn picking reportedHealth dies isPutOff putOffEntries putOffOf kindAfter settled stays parentAfter departed reportedAt reporting badClock isDestinationOn lacksNumber lacksPlaces isBusyWith setupRefusal jobRefusal pickRefusal reportRefusal unlessRefused setupReply takingReply jobReply pickingReply pickReply reportingReply reportReply replyTo stateFrom shownHealth windowOrDead windowsFailing succeeded served
+unfolding if_then_else_ one allTo anyTo countTo firstTo chosenTo tableTo foldTo keep holds firstOf upTo insertBefore moveBefore padded everyIn countIn holdsEachOnce neverFalling firstsTo timesIn alongChain endsIn firstAlong isLive windowOf waitsOf busyOf usedOf waitingOf within feedbackInRange slotsInRange windowsInRange settingsInRange setupInRange emptyState firstDestination freshState feedback cohortShare isDeadAt raised liveAfterSuccess afterSuccess lowered liveAfterFailure afterFailure wokenHealth wokenAt woken implies belongs entrySound busyOn busyTo busySound isJobOn queueSound arrivalsSound orderOf orderSound countsSound soldSound childOf jobSound sumsFit healthSound sound isDead putOffPositions keptOf nOf newNumber freePlaces filled newOrder withOrder taken hasRoom hasAgent eligible eligibleOn eligibleOf eligibleTo hasEligible stepsTo transportSteps finds nextTransport currentJob passedOver nextPlace nextEntry credit hasCredit owned affordable isCandidate beats better bestCandidate paysFor paysForBest isPreempted preemptorOf addedTo charged preempting handedOut pickFrom pickWith pickOn picking reportedHealth dies isPutOff putOffEntries putOffOf kindAfter settled stays parentAfter departed reportedAt reporting badClock isDestinationOn lacksNumber lacksPlaces isBusyWith setupRefusal jobRefusal pickRefusal reportRefusal unlessRefused setupReply takingReply jobReply pickingReply afterPick pickReply reportingReply reportReply replyTo stateFrom shownHealth windowOrDead windowsFailing succeeded served
 w10b-holds = refl
 
 w11-holds : served pickedJob 0 6 (after 1 (jobTo0 0 100 ∷ jobTo0 0 7 ∷ [])) ≡ 0 ∷ 0 ∷ 0 ∷ 0 ∷ 0 ∷ 1 ∷ []
-unfolding if_then_else_ one allTo anyTo countTo firstTo chosenTo tableTo foldTo keep holds firstOf upTo insertBefore moveBefore padded everyIn countIn holdsEachOnce neverFalling firstsTo timesIn alongChain endsIn firstAlong isLive windowOf waitsOf busyOf usedOf waitingOf within feedbackInRange slotsInRange windowsInRange settingsInRange setupInRange emptyState firstDestination freshState feedback cohortShare isDeadAt raised liveAfterSuccess afterSuccess lowered liveAfterFailure afterFailure wokenHealth wokenAt woken implies belongs entrySound busyOn busyTo busySound isJobOn queueSound arrivalsSound orderOf orderSound countsSound soldSound childOf jobSound sumsFit healthSound sound isDead putOffPositions keptOf nOf newNumber freePlaces filled newOrder withOrder taken hasRoom hasAgent eligible eligibleOn eligibleOf eligibleTo hasEligible stepsTo transportSteps finds nextTransport currentJob passedOver nextPlace nextEntry credit hasCredit owned affordable isCandidate beats better bestCandidate paysFor paysForBest isPreempted preemptorOf addedTo charged preempting handedOut pickFrom pickWith pickOn picking reportedHealth dies isPutOff putOffEntries putOffOf kindAfter settled stays parentAfter departed reportedAt reporting badClock isDestinationOn lacksNumber lacksPlaces isBusyWith setupRefusal jobRefusal pickRefusal reportRefusal unlessRefused setupReply takingReply jobReply pickingReply pickReply reportingReply reportReply replyTo stateFrom shownHealth windowOrDead windowsFailing succeeded served
+unfolding if_then_else_ one allTo anyTo countTo firstTo chosenTo tableTo foldTo keep holds firstOf upTo insertBefore moveBefore padded everyIn countIn holdsEachOnce neverFalling firstsTo timesIn alongChain endsIn firstAlong isLive windowOf waitsOf busyOf usedOf waitingOf within feedbackInRange slotsInRange windowsInRange settingsInRange setupInRange emptyState firstDestination freshState feedback cohortShare isDeadAt raised liveAfterSuccess afterSuccess lowered liveAfterFailure afterFailure wokenHealth wokenAt woken implies belongs entrySound busyOn busyTo busySound isJobOn queueSound arrivalsSound orderOf orderSound countsSound soldSound childOf jobSound sumsFit healthSound sound isDead putOffPositions keptOf nOf newNumber freePlaces filled newOrder withOrder taken hasRoom hasAgent eligible eligibleOn eligibleOf eligibleTo hasEligible stepsTo transportSteps finds nextTransport currentJob passedOver nextPlace nextEntry credit hasCredit owned affordable isCandidate beats better bestCandidate paysFor paysForBest isPreempted preemptorOf addedTo charged preempting handedOut pickFrom pickWith pickOn picking reportedHealth dies isPutOff putOffEntries putOffOf kindAfter settled stays parentAfter departed reportedAt reporting badClock isDestinationOn lacksNumber lacksPlaces isBusyWith setupRefusal jobRefusal pickRefusal reportRefusal unlessRefused setupReply takingReply jobReply pickingReply afterPick pickReply reportingReply reportReply replyTo stateFrom shownHealth windowOrDead windowsFailing succeeded served
 w11-holds = refl
 
 w12-holds : served pickedDestination 0 4 (after 3 (job 0 0 (0 ∷ 0 ∷ 1 ∷ 2 ∷ []) buffer ∷ [])) ≡ 0 ∷ 1 ∷ 2 ∷ 0 ∷ []
-unfolding if_then_else_ one allTo anyTo countTo firstTo chosenTo tableTo foldTo keep holds firstOf upTo insertBefore moveBefore padded everyIn countIn holdsEachOnce neverFalling firstsTo timesIn alongChain endsIn firstAlong isLive windowOf waitsOf busyOf usedOf waitingOf within feedbackInRange slotsInRange windowsInRange settingsInRange setupInRange emptyState firstDestination freshState feedback cohortShare isDeadAt raised liveAfterSuccess afterSuccess lowered liveAfterFailure afterFailure wokenHealth wokenAt woken implies belongs entrySound busyOn busyTo busySound isJobOn queueSound arrivalsSound orderOf orderSound countsSound soldSound childOf jobSound sumsFit healthSound sound isDead putOffPositions keptOf nOf newNumber freePlaces filled newOrder withOrder taken hasRoom hasAgent eligible eligibleOn eligibleOf eligibleTo hasEligible stepsTo transportSteps finds nextTransport currentJob passedOver nextPlace nextEntry credit hasCredit owned affordable isCandidate beats better bestCandidate paysFor paysForBest isPreempted preemptorOf addedTo charged preempting handedOut pickFrom pickWith pickOn picking reportedHealth dies isPutOff putOffEntries putOffOf kindAfter settled stays parentAfter departed reportedAt reporting badClock isDestinationOn lacksNumber lacksPlaces isBusyWith setupRefusal jobRefusal pickRefusal reportRefusal unlessRefused setupReply takingReply jobReply pickingReply pickReply reportingReply reportReply replyTo stateFrom shownHealth windowOrDead windowsFailing succeeded served
+unfolding if_then_else_ one allTo anyTo countTo firstTo chosenTo tableTo foldTo keep holds firstOf upTo insertBefore moveBefore padded everyIn countIn holdsEachOnce neverFalling firstsTo timesIn alongChain endsIn firstAlong isLive windowOf waitsOf busyOf usedOf waitingOf within feedbackInRange slotsInRange windowsInRange settingsInRange setupInRange emptyState firstDestination freshState feedback cohortShare isDeadAt raised liveAfterSuccess afterSuccess lowered liveAfterFailure afterFailure wokenHealth wokenAt woken implies belongs entrySound busyOn busyTo busySound isJobOn queueSound arrivalsSound orderOf orderSound countsSound soldSound childOf jobSound sumsFit healthSound sound isDead putOffPositions keptOf nOf newNumber freePlaces filled newOrder withOrder taken hasRoom hasAgent eligible eligibleOn eligibleOf eligibleTo hasEligible stepsTo transportSteps finds nextTransport currentJob passedOver nextPlace nextEntry credit hasCredit owned affordable isCandidate beats better bestCandidate paysFor paysForBest isPreempted preemptorOf addedTo charged preempting handedOut pickFrom pickWith pickOn picking reportedHealth dies isPutOff putOffEntries putOffOf kindAfter settled stays parentAfter departed reportedAt reporting badClock isDestinationOn lacksNumber lacksPlaces isBusyWith setupRefusal jobRefusal pickRefusal reportRefusal unlessRefused setupReply takingReply jobReply pickingReply afterPick pickReply reportingReply reportReply replyTo stateFrom shownHealth windowOrDead windowsFailing succeeded served
 w12-holds = refl
 
 pub worked : Worked

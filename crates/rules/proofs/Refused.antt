@@ -22,7 +22,7 @@ use Rattle.rules.specs.Taking.{nOf}
 use Rattle.rules.specs.Picking.{finds}
 use Rattle.rules.specs.Pick.{picking}
 use Rattle.rules.specs.Refusals.{jobRefusal, pickRefusal, reportRefusal, askRefusal, boardRefusal, badClock, isDestinationOn, lacksNumber, lacksPlaces, isBusyWith}
-use Rattle.rules.specs.Calls.{Says, Reply, Call, refused, unlessRefused, takingReply, pickingReply, reportingReply, jobReply, pickReply, reportReply}
+use Rattle.rules.specs.Calls.{Says, Reply, Call, refused, unlessRefused, takingReply, pickingReply, afterPick, reportingReply, jobReply, pickReply, reportReply}
 use Rattle.rules.specs.Calls.{askReply, boardReply, replyTo}
 use Rattle.rules.specs.Lent.{lentTo}
 
@@ -64,7 +64,7 @@ refusalOf s (Call.ask j) = askRefusal s j
 refusalOf s (Call.board buffer) = boardRefusal s buffer
 
 picking-accepted : (s : State) (now : ℕ) → pickReply s now .says .refusal ≡ pickRefusal s now
-unfolding pickReply pickingReply
+unfolding pickReply afterPick pickingReply
 picking-accepted s now =
     unless-says (pickRefusal s now) s [] _
     (either-accepted (finds (woken s now)) _ _ refl refl)

@@ -116,12 +116,13 @@ pickingReply w p =
       buffer = [];
     }
 
+-- of the state after waking
+unfoldable pub afterPick : State → ℕ → Reply
+afterPick w now =
+    if finds w then pickingReply w (picking w now) else record { says = answers (0 ∷ []); state = w; buffer = [] }
+
 unfoldable pub pickReply : State → ℕ → Reply
-pickReply s now =
-    unlessRefused (pickRefusal s now) s []
-    (if finds (woken s now)
-    then pickingReply (woken s now) (picking (woken s now) now)
-    else record { says = answers (0 ∷ []); state = woken s now; buffer = [] })
+pickReply s now = unlessRefused (pickRefusal s now) s [] (afterPick (woken s now) now)
 
 unfoldable pub pickingDecision : Found → Decision
 pickingDecision f = picked (f .job) (f .passed) (f .preempted)
