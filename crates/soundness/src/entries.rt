@@ -1,0 +1,137 @@
+// Document 01, "Sound means": each used entry, and the counts of the entries that the other clauses speak of.
+use super::Tally;
+use super::wide;
+ghost use mathlib.Core.Path.{_≡_};
+ghost use mathlib.Core.Bool.{true, false};
+ghost use Prim.Native.Nat.{ℕ, _+_, _*_, _≤_, _<_};
+ghost use lib.ListN.{length};
+ghost use lib.Dec.{eqb};
+ghost use Rattle.laws.specs.Range.{allTo};
+ghost use Rattle.rules.specs.State.{at};
+ghost use Rattle.soundness.specs.Columns.{columns, Tallied};
+
+pub fn count_entries<'a, 'b>(
+    kind: &'a [u8; 512],
+    job: &'a [u8; 512],
+    destination: &'a [u8; 512],
+    present: &'b [bool; 32],
+    transport: &'b [u8; 32],
+    home: &[u64; 32],
+    destinations: usize,
+    marked: &[bool; 8192],
+) -> Tally
+    requires { ⌜ destinations ≤ 32 ⌝ }
+    requires { ⌜ length (now present) ≡ 32 ⌝ }
+    requires { ⌜ ((d : ℕ) → d < destinations → at (now home) d < 4) ⌝ }
+    ensures { λ r. ⌜ Tallied
+        (columns
+        (now (kind .entry))
+        (now (job .entry))
+        (now (destination .entry))
+        (now (present .entry))
+        (now (transport .entry))
+        (now (home .entry))
+        destinations
+        (now (marked .entry)))
+        r ⌝ }
+{
+    let mut waiting = [0u16; 32];
+    let mut busy = [0u16; 32];
+    let mut held = [0u16; 32];
+    let mut to = [0u16; 32];
+    let mut on = [0u16; 4];
+    let mut e: usize = 0;
+    while e < 512 {
+        let k = kind[e];
+        if k == 0 {
+            e += 1;
+            continue;
+        }
+        let j = wide(job[e]);
+        let d = wide(destination[e]);
+        if 2 < k {
+            return Tally {
+                good: false,
+                waiting,
+                busy,
+                held,
+                to,
+                on,
+            };
+        }
+        if 32 <= j {
+            return Tally {
+                good: false,
+                waiting,
+                busy,
+                held,
+                to,
+                on,
+            };
+        }
+        if destinations <= d {
+            return Tally {
+                good: false,
+                waiting,
+                busy,
+                held,
+                to,
+                on,
+            };
+        }
+        if !(present[j] & marked[256 * j + d]) {
+            return Tally {
+                good: false,
+                waiting,
+                busy,
+                held,
+                to,
+                on,
+            };
+        }
+        let h = home[d];
+        let t = wide(transport[j]) as u64;
+        if t != h {
+            return Tally {
+                good: false,
+                waiting,
+                busy,
+                held,
+                to,
+                on,
+            };
+        }
+        if k == 1 {
+            waiting[j] += 1;
+            held[d] += 1;
+            e += 1;
+            continue;
+        }
+        busy[j] += 1;
+        to[d] += 1;
+        on[h as usize] += 1;
+        e += 1;
+    }
+    Tally {
+        good: true,
+        waiting,
+        busy,
+        held,
+        to,
+        on,
+    }
+}
+
+// Whether two tables agree in their first n places.
+pub fn agree(a: &[u16], b: &[u16], n: usize) -> bool
+    requires { ⌜ (n ≤ length (now a)) × (n ≤ length (now b)) ⌝ }
+    ensures { λ r. ⌜ r ≡ allTo (λ i. eqb (at (now (a .entry)) i) (at (now (b .entry)) i)) n ⌝ }
+{
+    let mut good = true;
+    let mut i: usize = 0;
+    while i < n {
+        good = good & (a[i] == b[i]);
+        i += 1;
+    }
+    good
+}

@@ -1,0 +1,95 @@
+// Document 01, "Refusal numbers", "Sound means": whether a state is sound, whatever numbers it holds. One pass over the entries, with tables.
+use rules::State;
+
+mod destinations;
+mod entries;
+mod jobs;
+mod lists;
+mod orders;
+
+ghost use mathlib.Core.Path.{_≡_};
+ghost use Prim.Native.Nat.{_<_};
+ghost use Rattle.rules.specs.Sound.{sound};
+
+// A number of a column, wide enough to be an index or to be added to.
+fn wide(x: u8) -> usize
+    ensures { λ r. ⌜ (r ≡ x) × (r < 256) ⌝ }
+{
+    x as usize
+}
+
+// What the pass over the entries counts: waiting and busy entries of each job, waiting and busy ones to each destination, busy ones on each
+// transport. Nothing is said of the counts where an entry is not good.
+pub struct Tally {
+    pub good: bool,
+    pub waiting: [u16; 32],
+    pub busy: [u16; 32],
+    pub held: [u16; 32],
+    pub to: [u16; 32],
+    pub on: [u16; 4],
+}
+
+// Whether a state is sound.
+pub fn sound(s: State) -> bool
+    ensures { λ r. ⌜ r ≡ sound s ⌝ }
+{
+    let u = s.setup;
+    if !startup::in_range(u) {
+        return false;
+    }
+    let transports = u.transports as usize;
+    let destinations = u.destinations as usize;
+    let home = u.home;
+    if transports < wide(s.turn) {
+        return false;
+    }
+    let g = s.jobs;
+    let mut marked = [false; 8192];
+    if !orders::mark_orders(&g.present, &g.places, &g.order, &mut marked) {
+        return false;
+    }
+    let entries = s.entries;
+    let counted = entries::count_entries(
+        &entries.kind,
+        &entries.job,
+        &entries.destination,
+        &g.present,
+        &g.transport,
+        &home,
+        destinations,
+        &marked,
+    );
+    if !counted.good {
+        return false;
+    }
+    let waiting = counted.waiting;
+    let busy = counted.busy;
+    let held = counted.held;
+    let to = counted.to;
+    let on = counted.on;
+    let stored = s.busy;
+    if !entries::agree(&stored.transport, &on, transports) {
+        return false;
+    }
+    if !entries::agree(&stored.destination, &to, destinations) {
+        return false;
+    }
+    if !jobs::jobs_right(g, u, waiting, busy) {
+        return false;
+    }
+    let queues = s.queues;
+    if !lists::queues_right(queues, &g.present, &g.transport, transports) {
+        return false;
+    }
+    let arrivals = s.arrivals;
+    let present = g.present;
+    if !lists::each_once(arrivals, present) {
+        return false;
+    }
+    let clock = s.clock;
+    if !lists::seconds_rise(arrivals, &g.arrival, clock) {
+        return false;
+    }
+    let states = s.destinations;
+    destinations::destinations_right(u, states, held)
+}
