@@ -1,10 +1,10 @@
 -- A law for each way that a call can end: what the code gives there is the rules' reply.
 use Prim.Native.Nat.{ℕ, zero, suc, _≤_, _<_}
-use mathlib.Core.Path.{_≡_, refl, sym, _∙_, ap}
+use mathlib.Core.Path.{_≡_, refl, sym, _∙_, ap, subst}
 use mathlib.Core.Bool.{Bool, true, false, not}
-use mathlib.Core.List.{List, [], _∷_, _++_}
+use mathlib.Core.List.{List, [], _∷_, _++_, map}
 use native.Mathlib.Nat.{suc-ne-zero}
-use lib.ListN.{length, drop}
+use lib.ListN.{length, drop, length-map}
 use lib.Dec.{ltb}
 use borrow.Author.Tests.{lt-ltb, le-ltb}
 use Rattle.laws.specs.Choice.{if_then_else_}
@@ -14,12 +14,17 @@ use Rattle.rules.specs.declared.Outcome.{Outcome}
 use Rattle.rules.specs.State.{at, destinationOf, isPresent}
 use Rattle.rules.specs.Setup.{setupInRange, zeroState, freshState}
 use Rattle.rules.specs.Sound.{sound}
+use Rattle.rules.proofs.Soundness.{sound-facts}
 use Rattle.rules.specs.Windows.{woken}
 use Rattle.rules.specs.Reporting.{reporting}
-use Rattle.rules.specs.Board.{boardText}
+use Rattle.rules.specs.Board.{textOf, boardText}
 use Rattle.rules.specs.Refusals.{badClock, setupRefusal, jobRefusal, pickRefusal, reportRefusal, askRefusal, boardRefusal}
 use Rattle.rules.specs.Calls.{Says, Reply, refused, answers, written, unlessRefused, setupReply, takingReply, jobReply, pickReply, reportingReply, reportReply}
 use Rattle.rules.specs.Calls.{afterPick, askReply, boardReply}
+
+-- a list is as long as its image: the length of an array that came in
+pub length-mapped : {X Y : Type 0} (f : X → Y) (l : List X) (n : ℕ) → length (map f l) ≡ n → length l ≡ n
+length-mapped f l n e = sym (length-map l f) ∙ e
 
 -- Refused, and not refused, in general.
 
@@ -102,19 +107,30 @@ module _ (s : State) (j : ℕ) where
 
 -- The board text.
 
+pub few : (s : State) → sound s ≡ true → s .setup .destinations ≤ 32
+few s h = sound-facts s h .setup .destinations .1
+
 module _ (s : State) (buffer : List ℕ) where
   pub board-unsound : sound s ≡ false → record { says = refused 1; state = s; buffer = buffer } ≡ boardReply s buffer
   unfolding boardReply boardRefusal
   board-unsound h = let q = first-test (sound s) _ h in refusing 1 _ s buffer _ (sym q) (one-not-zero _ q)
 
-  pub board-short : sound s ≡ true → length buffer < length (boardText s) → record { says = refused 10; state = s; buffer = buffer } ≡ boardReply s buffer
-  unfolding boardReply boardRefusal unlessRefused if_then_else_
-  board-short h l = rw (h, lt-ltb (length buffer) (length (boardText s)) l) refl
+  -- the text, over what the code reads of the state
+  abbrev text : List ℕ
+  text = textOf (s .clock) (s .setup .destinations) (s .destinations) (s .busy .destination)
 
-  pub board-written : (n : ℕ) (out : List ℕ) → sound s ≡ true → length (boardText s) ≤ length buffer → n ≡ length (boardText s)
-      → out ≡ boardText s ++ drop (length (boardText s)) buffer → record { says = answers (n ∷ []); state = s; buffer = out } ≡ boardReply s buffer
-  unfolding boardReply boardRefusal unlessRefused if_then_else_
-  board-written n out h l e f = rw (h, le-ltb (length buffer) (length (boardText s)) l, e, f) refl
+  pub board-short : (need : ℕ) → sound s ≡ true → need ≡ length text → length buffer < need
+      → record { says = refused 10; state = s; buffer = buffer } ≡ boardReply s buffer
+  unfolding boardReply boardRefusal boardText unlessRefused if_then_else_
+  board-short need h e l = rw (h, lt-ltb (length buffer) (length text) (subst (λ n. length buffer < n) e l)) refl
+
+  pub board-fits : (need : ℕ) → need ≡ length text → need ≤ length buffer → length text ≤ length buffer
+  board-fits need e l = subst (λ n. n ≤ length buffer) e l
+
+  pub board-written : (n : ℕ) (out : List ℕ) → sound s ≡ true → length text ≤ length buffer → n ≡ length text → out ≡ text ++ drop (length text) buffer
+      → record { says = answers (n ∷ []); state = s; buffer = out } ≡ boardReply s buffer
+  unfolding boardReply boardRefusal boardText unlessRefused if_then_else_
+  board-written n out h l e f = rw (h, le-ltb (length buffer) (length text) l, e, f) refl
 
 -- A pick.
 
