@@ -1,0 +1,85 @@
+-- What a sound state has ready for the leaf functions, and their answers put together.
+use Prim.Native.Nat.{ℕ, zero, suc, _*_, _≤_, _<_}
+use mathlib.Core.Bool.{true, false, _||_}
+use mathlib.Core.Path.{_≡_, sym, _∙_, ap, subst}
+use mathlib.Core.Logic.{⊎-elim}
+use native.Mathlib.Omega.{arith}
+use lib.Dec.{eqb}
+use lib.Seq.{getD-take, length-take-le}
+use borrow.Author.Tests.{eqb-true}
+use Rattle.laws.specs.Sequence.{holds}
+use Rattle.laws.proofs.Choice.{and-left, or-cases, if-true, if-false}
+use Rattle.laws.proofs.Tests.{and-5}
+use Rattle.laws.proofs.Sequence.{holds-getD}
+use Rattle.laws.proofs.Once.{once-facts}
+use Rattle.rules.specs.declared.Settings.{Settings}
+use Rattle.rules.specs.declared.State.{State}
+use Rattle.rules.specs.Setup.{within, slotsInRange, windowsInRange, settingsInRange}
+use Rattle.rules.specs.SoundFacts.{Sound}
+use Rattle.rules.specs.State.{at, settingsOf, listOf, isPresent}
+use Rattle.rules.specs.Picking.{finds, hasEligible, nextTransport, currentJob, passedOver, nextPlace, nextEntry}
+use Rattle.rules.specs.Preemption.{preemptorOf}
+use Rattle.rules.proofs.Shape.{Shaped}
+use Rattle.rules.proofs.Soundness.{within-facts}
+use Rattle.rules.proofs.Picked.{Current}
+use Rattle.rules.proofs.Preemptor.{preemptor-found}
+use Rattle.choice.specs.declared.Choice.{Choice}
+use Rattle.choice.specs.Choosing.{waitingAt, pickedFrom, nothing, chosen, chosenWith, chosenOn, choiceOf}
+use Rattle.choice.specs.Facts.{Arrived}
+
+-- the slots of settings in range
+pub slots-read : (g : Settings) → settingsInRange g ≡ true → (g .cost ≤ 100) × (g .minimum ≤ 100) × (g .loan ≤ 100) × (g .discount ≤ 100)
+unfolding settingsInRange slotsInRange
+slots-read g r =
+    let f =
+    and-5 (within 1 100 (g .agents)) (eqb (g .cost) 0 || within 2 100 (g .cost)) (within 0 100 (g .loan)) (within 0 100 (g .discount)) (within 0 100 (g .minimum))
+    (and-left (slotsInRange g) (windowsInRange g) r)
+    in (
+      ⊎-elim (λ z. omega (arith, eqb-true (g .cost) 0 z)) (λ z. within-facts z .1) (or-cases (eqb (g .cost) 0) (within 2 100 (g .cost)) (f .1)),
+      within-facts (f .4) .1,
+      within-facts (f .2) .1,
+      within-facts (f .3) .1,
+    )
+
+module _ (w : State) (shape : Shaped w) (h : Sound w) where
+  pub arrived-read : (now : ℕ) → w .clock ≤ now → Arrived (w .jobs .arrival) (w .arrivals .jobs) (w .arrivals .count) now
+  arrived-read now late i l =
+      let n = h .arrivals .count in
+      let here : at (listOf (w .arrivals)) i ≡ at (w .arrivals .jobs) i = getD-take (w .arrivals .count) (w .arrivals .jobs) i 0 l in
+      let long = length-take-le (w .arrivals .count) (w .arrivals .jobs) (omega (arith, shape .arrivals)) in
+      let k : holds (at (w .arrivals .jobs) i) (listOf (w .arrivals)) ≡ true = subst (λ x. holds x (listOf (w .arrivals)) ≡ true) here (holds-getD (listOf (w .arrivals)) i 0 (omega (arith, long))) in
+      (once-facts (isPresent w) 32 (listOf (w .arrivals)) (h .arrivals .once) .below (at (w .arrivals .jobs) i) k, omega (arith, h .arrivals .past (at (w .arrivals .jobs) i) k))
+
+  pub sold-read : (t y : ℕ) → Current w t y → settingsOf w t .cost * at (w .jobs .sold) y ≤ 256
+  sold-read t y r =
+      let s = h .jobs y (r .below) (r .present) in
+      omega (arith, ap (λ x. settingsOf w x .cost * at (w .jobs .sold) y) (r .transport), s .sold, s .n .1)
+
+  -- the job picked from
+  pub job-read : (now t y link j : ℕ) → t < w .setup .transports → Current w t y → link ≡ preemptorOf w now t y → j ≡ pickedFrom y link → (j < 32) × (isPresent w j ≡ true) × (hasEligible w j ≡ true)
+  unfolding pickedFrom
+  job-read now t y zero j l r p e = subst (λ x. (x < 32) × (isPresent w x ≡ true) × (hasEligible w x ≡ true)) (sym e) (r .below, r .present, r .eligible)
+  job-read now t y (suc x) j l r p e =
+      let f = preemptor-found w now t y x shape h l r (sym p) in
+      subst (λ z. (z < 32) × (isPresent w z ≡ true) × (hasEligible w z ≡ true)) (sym e) (f .below, f .present, f .eligible)
+
+-- the answers
+
+pub nothing-chosen : (w : State) (now : ℕ) → finds w ≡ false → nothing ≡ choiceOf w now
+unfolding choiceOf
+nothing-chosen w now f = sym (if-false (chosenOn w now (nextTransport w) (currentJob w (nextTransport w))) nothing f)
+
+pub all-chosen : (w : State) (now t y passed link waiting j place entry : ℕ) → finds w ≡ true → t ≡ nextTransport w → y ≡ currentJob w t → passed ≡ passedOver w t y
+    → link ≡ preemptorOf w now t y → waiting ≡ waitingAt w link → j ≡ pickedFrom y link → place ≡ nextPlace w j → entry ≡ nextEntry w j
+    → _≡_ {A = Choice} (record { found = true; transport = t; current = y; passed = passed; preemptor = link; waiting = waiting; job = j; place = place; entry = entry }) (choiceOf w now)
+unfolding choiceOf
+all-chosen w now t y passed link waiting j place entry f et ey ep el ew ej ek ee =
+    parts
+    ∙ ap (chosen w t y link) ej
+    ∙ ap (chosenWith w t y) el
+    ∙ ap (chosenOn w now t) ey
+    ∙ ap (λ x. chosenOn w now x (currentJob w x)) et
+    ∙ sym (if-true (chosenOn w now (nextTransport w) (currentJob w (nextTransport w))) nothing f)
+  where
+    parts : _≡_ {A = Choice} (record { found = true; transport = t; current = y; passed = passed; preemptor = link; waiting = waiting; job = j; place = place; entry = entry }) (chosen w t y link j)
+    parts = rw (ep, ew, ek, ee)

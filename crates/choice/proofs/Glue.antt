@@ -1,0 +1,196 @@
+-- The tables and turns of the leaf functions are what the rules read of a sound state.
+use Prim.Native.Nat.{ℕ, _+_, _%_, _<_}
+use mathlib.Core.Bool.{Bool, true, false, _&&_}
+use mathlib.Core.Path.{_≡_, sym, _∙_, ap, subst}
+use mathlib.Core.Logic.{⊎-elim}
+use mathlib.Core.List.{List}
+use native.Mathlib.Nat.{mod-lt}
+use native.Mathlib.Omega.{arith}
+use lib.Dec.{eqb, ltb}
+use lib.ListN.{getD}
+use borrow.Author.Tests.{ltb-true, lt-ltb, eq-eqb}
+use Rattle.laws.specs.Range.{anyTo, countTo, firstTo}
+use Rattle.laws.specs.Sequence.{holds, firstOf, upTo}
+use Rattle.laws.proofs.Choice.{case-bool, bool-same, and-both}
+use Rattle.laws.proofs.All.{any-of, any-witness, any-same}
+use Rattle.laws.proofs.First.{first-same, first-any}
+use Rattle.laws.proofs.Found.{first-of-cases, first-of-same, up-to-in}
+use Rattle.laws.proofs.Sequence.{count-in-same}
+use Rattle.rules.specs.declared.State.{State}
+use Rattle.rules.specs.State.{at, transportOf, queueOf, isWaiting, jobOf, destinationOf, isPresent, waitsOf, waitingOf, orderAt}
+use Rattle.rules.specs.SoundFacts.{Sound}
+use Rattle.rules.specs.Picking.{hasRoom, hasAgent, eligible, eligibleOn, eligibleOf, eligibleTo, hasEligible, stepsTo, transportSteps, finds, nextTransport, currentJob, passedOver, nextPlace, nextEntry}
+use Rattle.rules.proofs.Shape.{Shaped}
+use Rattle.rules.proofs.EntryFacts.{waiting-used, eligible-of-eligible, eligible-of-job, eligible-sound}
+use Rattle.rules.proofs.Turns.{steps-found}
+use Rattle.rules.proofs.Picked.{queue-job, TransportFound, transport-found, Current, current-found, next-found}
+use Rattle.choice.specs.Columns.{isOpen, waitsIn, readyIn, readyTo}
+use Rattle.choice.specs.Facts.{Reads, frontOf, aheadOf, hasFront, frontSteps, Turned, hasFirst, Placed}
+
+-- turns that ask the same
+pub steps-same : (p q : ℕ → Bool) (n start : ℕ) → ((k : ℕ) → k < n → p k ≡ q k) → stepsTo p n start ≡ stepsTo q n start
+unfolding stepsTo
+steps-same p q n start h = first-same (λ i. p ((start + i) % n)) (λ i. q ((start + i) % n)) n λ i l. h ((start + i) % n) (mod-lt (start + i) (omega arith))
+
+module _ (w : State) (h : Sound w) (room : List Bool) (rooms : (d : ℕ) → d < w .setup .destinations → getD room d false ≡ isOpen (w .destinations) (w .busy) (w .setup) d) where
+  -- the table of rooms finds the eligible entries
+  pub eligible-read : (e : ℕ) → e < 512 → (isWaiting w e && getD room (destinationOf w e) false) ≡ eligible w e
+  unfolding eligible hasRoom hasAgent isOpen
+  eligible-read e l =
+      case-bool (isWaiting w e)
+      (λ t.
+      ap (λ b. b && getD room (destinationOf w e) false) t
+      ∙ rooms (destinationOf w e) (h .entries e l (waiting-used w e t) .destination)
+      ∙ sym (ap (λ b. (b && hasRoom w (destinationOf w e)) && hasAgent w (transportOf w (destinationOf w e))) t))
+      (λ f.
+      ap (λ b. b && getD room (destinationOf w e) false) f
+      ∙ sym (ap (λ b. (b && hasRoom w (destinationOf w e)) && hasAgent w (transportOf w (destinationOf w e))) f))
+
+  pub ready-read : (j e : ℕ) → e < 512 → readyIn (w .entries .kind) (w .entries .job) (w .entries .destination) room j e ≡ eligibleOf w j e
+  unfolding readyIn eligibleOf
+  ready-read j e l = ap (λ b. b && eqb (jobOf w e) j) (eligible-read e l)
+
+  pub ready-to-read : (j d e : ℕ) → e < 512 → readyTo (w .entries .kind) (w .entries .job) (w .entries .destination) room j d e ≡ eligibleTo w j d e
+  unfolding readyTo eligibleTo
+  ready-to-read j d e l = ap (λ b. b && eqb (destinationOf w e) d) (ready-read j e l)
+
+  pub tally-reads : (waits : List ℕ) (ready : List Bool) → ((j : ℕ) → j < 256 → at waits j ≡ countTo (waitsIn (w .entries .kind) (w .entries .job) j) 512)
+      → ((j : ℕ) → j < 256 → getD ready j false ≡ anyTo (readyIn (w .entries .kind) (w .entries .job) (w .entries .destination) room j) 512) → Reads w waits ready
+  unfolding waitingOf waitsOf waitsIn hasEligible
+  tally-reads waits ready a b =
+      record {
+        waiting = a;
+        eligible = λ j l. b j l ∙ any-same (readyIn (w .entries .kind) (w .entries .job) (w .entries .destination) room j) (eligibleOf w j) 512 (λ e m. ready-read j e m);
+      }
+
+  -- the first entries of a job
+
+  module _ (j : ℕ) (first : List ℕ) (found : (d : ℕ) → d < 256 → at first d ≡ firstTo (readyTo (w .entries .kind) (w .entries .job) (w .entries .destination) room j d) 512) where
+    pub first-read : (d : ℕ) → d < 256 → at first d ≡ firstTo (eligibleTo w j d) 512
+    first-read d l = found d l ∙ first-same (readyTo (w .entries .kind) (w .entries .job) (w .entries .destination) room j d) (eligibleTo w j d) 512 (λ e m. ready-to-read j d e m)
+
+    pub has-first-read : (k : ℕ) → orderAt w j k < 256 → hasFirst (w .jobs .order) first j k ≡ anyTo (eligibleTo w j (orderAt w j k)) 512
+    unfolding hasFirst
+    has-first-read k l = ap (λ x. ltb x 512) (first-read (orderAt w j k) l) ∙ first-any (eligibleTo w j (orderAt w j k)) 512
+
+pub record TurnRead (w : State) (t y passed : ℕ) : Type 0 where
+  pub finds : finds w ≡ true
+  pub on : t ≡ nextTransport w
+  pub transport : TransportFound w t
+  pub current : y ≡ currentJob w t
+  pub is : Current w t y
+  pub ahead : passed ≡ passedOver w t y
+
+module _ (w : State) (shape : Shaped w) (h : Sound w) (waits : List ℕ) (ready : List Bool) (reads : Reads w waits ready) where
+  in-queue : (t j : ℕ) → t < w .setup .transports → holds j (queueOf w t) ≡ true → j < 256
+  in-queue t j l k = omega (arith, queue-job w t j h l k .0)
+
+  pub front-read : (t : ℕ) → t < w .setup .transports → frontOf ready (queueOf w t) ≡ currentJob w t
+  unfolding frontOf currentJob
+  front-read t l = first-of-same (λ j. getD ready j false) (hasEligible w) (queueOf w t) 32 (λ j k. reads .eligible j (in-queue t j l k))
+
+  pub ahead-read : (t y : ℕ) → t < w .setup .transports → aheadOf waits (queueOf w t) y ≡ passedOver w t y
+  unfolding aheadOf passedOver
+  ahead-read t y l =
+      count-in-same (λ j. ltb 0 (at waits j)) (λ j. ltb 0 (waitingOf w j)) (upTo y (queueOf w t))
+      (λ j k. ap (ltb 0) (reads .waiting j (in-queue t j l (up-to-in y j (queueOf w t) k))))
+
+  -- an eligible entry of a job on the transport's list is one of the transport
+  on-transport : (t y : ℕ) → t < w .setup .transports → holds y (queueOf w t) ≡ true → hasEligible w y ≡ true → anyTo (eligibleOn w t) 512 ≡ true
+  unfolding hasEligible eligibleOn
+  on-transport t y l k e =
+      let x = any-witness (eligibleOf w y) 512 e in
+      let ok = eligible-of-eligible w y (x .0) (x .2) in
+      let s = eligible-sound w h (x .0) (x .1) ok in
+      any-of (eligibleOn w t) 512 (x .0) (x .1)
+      (and-both ok (eq-eqb (transportOf w (destinationOf w (x .0))) t
+      (sym (s .transport) ∙ ap (at (w .jobs .transport)) (eligible-of-job w y (x .0) (x .2)) ∙ queue-job w t y h l k .2)))
+
+  current-below : (t : ℕ) → t < w .setup .transports → currentJob w t < 32 → anyTo (eligibleOn w t) 512 ≡ true
+  unfolding currentJob
+  current-below t l b =
+      ⊎-elim (λ r. on-transport t (firstOf (hasEligible w) (queueOf w t) 32) l (r .0) (r .1)) (λ r. absurd (omega (arith, r .0, b))) (first-of-cases (hasEligible w) (queueOf w t) 32)
+
+  pub has-front-read : (t : ℕ) → t < w .setup .transports → hasFront ready (w .queues) t ≡ anyTo (eligibleOn w t) 512
+  unfolding hasFront
+  has-front-read t l =
+      ap (λ x. ltb x 32) (front-read t l)
+      ∙ bool-same
+      (λ b. current-below t l (ltb-true (currentJob w t) 32 b))
+      (λ a. lt-ltb (currentJob w t) 32 (current-found w t shape h (record { below = l; eligible = a }) .below))
+
+  pub steps-read : frontSteps ready (w .queues) (w .setup .transports) (w .turn) ≡ transportSteps w
+  unfolding frontSteps transportSteps
+  steps-read = steps-same (hasFront ready (w .queues)) (λ t. anyTo (eligibleOn w t) 512) (w .setup .transports) (w .turn) has-front-read
+
+  pub finds-read : ltb (frontSteps ready (w .queues) (w .setup .transports) (w .turn)) (w .setup .transports) ≡ finds w
+  unfolding finds
+  finds-read = ap (λ x. ltb x (w .setup .transports)) steps-read
+
+  pub transport-read : (w .turn + frontSteps ready (w .queues) (w .setup .transports) (w .turn)) % w .setup .transports ≡ nextTransport w
+  unfolding nextTransport
+  transport-read = ap (λ x. (w .turn + x) % w .setup .transports) steps-read
+
+  -- what a turn of transports found
+  pub turn-read : (found : Bool) (t y passed : ℕ) → Turned (w .queues) (w .setup .transports) (w .turn) waits ready found t y passed → found ≡ true → TurnRead w t y passed
+  turn-read found t y passed r e =
+      let f : finds w ≡ true = sym (r .finds ∙ finds-read) ∙ e in
+      let on : t ≡ nextTransport w = r .on e ∙ transport-read in
+      let tf : TransportFound w t = subst (TransportFound w) (sym on) (transport-found w f) in
+      let cur : y ≡ currentJob w t = r .current e ∙ front-read t (tf .below) in
+      record {
+        finds = f;
+        on = on;
+        transport = tf;
+        current = cur;
+        is = subst (Current w t) (sym cur) (current-found w t shape h tf);
+        ahead = r .ahead e ∙ ahead-read t y (tf .below);
+      }
+
+  pub not-found : (found : Bool) (t y passed : ℕ) → Turned (w .queues) (w .setup .transports) (w .turn) waits ready found t y passed → found ≡ false → finds w ≡ false
+  not-found found t y passed r e = sym (r .finds ∙ finds-read) ∙ e
+
+-- the turn of a job's places
+
+module _ (w : State) (shape : Shaped w) (h : Sound w) (j : ℕ) (below : j < 32) (present : isPresent w j ≡ true) (some : hasEligible w j ≡ true)
+    (first : List ℕ) (order : (k : ℕ) → orderAt w j k < 256)
+    (tabled : (d : ℕ) → d < 256 → at first d ≡ firstTo (eligibleTo w j d) 512)
+    (asked : (k : ℕ) → orderAt w j k < 256 → hasFirst (w .jobs .order) first j k ≡ anyTo (eligibleTo w j (orderAt w j k)) 512)
+  where
+    same-steps : stepsTo (hasFirst (w .jobs .order) first j) (at (w .jobs .places) j) (at (w .jobs .turn) j)
+        ≡ stepsTo (λ k. anyTo (eligibleTo w j (orderAt w j k)) 512) (at (w .jobs .places) j) (at (w .jobs .turn) j)
+    same-steps =
+        steps-same (hasFirst (w .jobs .order) first j) (λ k. anyTo (eligibleTo w j (orderAt w j k)) 512) (at (w .jobs .places) j) (at (w .jobs .turn) j)
+        (λ k l. asked k (order k))
+
+    pub place-found : stepsTo (hasFirst (w .jobs .order) first j) (at (w .jobs .places) j) (at (w .jobs .turn) j) < at (w .jobs .places) j
+    unfolding eligibleTo eligibleOf
+    place-found =
+        let n = next-found w j shape h present some in
+        rw same-steps
+        (steps-found (λ k. anyTo (eligibleTo w j (orderAt w j k)) 512) (at (w .jobs .places) j) (at (w .jobs .turn) j) (h .jobs j below present .turn) (nextPlace w j) (n .place)
+        (any-of (eligibleTo w j (orderAt w j (nextPlace w j))) 512 (nextEntry w j) (n .below)
+        (and-both (and-both (n .eligible) (eq-eqb (jobOf w (nextEntry w j)) j (n .job))) (eq-eqb (destinationOf w (nextEntry w j)) (orderAt w j (nextPlace w j)) (n .destination)))))
+
+    pub place-read : (at (w .jobs .turn) j + stepsTo (hasFirst (w .jobs .order) first j) (at (w .jobs .places) j) (at (w .jobs .turn) j)) % at (w .jobs .places) j ≡ nextPlace w j
+    unfolding nextPlace
+    place-read = ap (λ x. (at (w .jobs .turn) j + x) % at (w .jobs .places) j) same-steps
+
+    pub entry-read : at first (orderAt w j (nextPlace w j)) ≡ nextEntry w j
+    unfolding nextEntry
+    entry-read = tabled (orderAt w j (nextPlace w j)) (order (nextPlace w j))
+
+    -- what is promised with the columns read at i
+    pub placed-read : (i place entry : ℕ) → i ≡ j
+        → (stepsTo (hasFirst (w .jobs .order) first j) (at (w .jobs .places) i) (at (w .jobs .turn) i) < at (w .jobs .places) i
+        → Placed (w .jobs .order) first j (at (w .jobs .places) i) (at (w .jobs .turn) i) place entry)
+        → (place ≡ nextPlace w j) × (entry ≡ nextEntry w j)
+    placed-read i place entry e p =
+        let q =
+        subst
+        (λ x. stepsTo (hasFirst (w .jobs .order) first j) (at (w .jobs .places) x) (at (w .jobs .turn) x) < at (w .jobs .places) x
+        → Placed (w .jobs .order) first j (at (w .jobs .places) x) (at (w .jobs .turn) x) place entry)
+        e p place-found
+        in
+        let here : place ≡ nextPlace w j = q .turn ∙ place-read in
+        (here, q .taken ∙ ap (λ x. at first (orderAt w j x)) here ∙ entry-read)

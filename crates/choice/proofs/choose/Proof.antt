@@ -1,0 +1,204 @@
+-- `choice::choose` meets its contract: the leaf functions read what the rules read (proofs/Glue.antt), and proofs/Chosen.antt puts it together. Assumes nothing.
+use Prim.Native.Nat.{ℕ, _*_, _≤_, _<_}
+use mathlib.Core.Path.{_≡_, refl, sym, ap, subst}
+use mathlib.Core.Bool.{true}
+use native.Mathlib.Nat.{lt-of-lt-of-le}
+use lib.Dec.{lit≤}
+use lib.ListN.{length, getD}
+use mir.Syntax.{w8}
+use borrow.Author.Needs.{elem-fits-field}
+use borrow.Author.Tests.{not-true, not-false}
+use Rattle.rules.specs.State.{at, zeroList, zeroSettings, settingsOf, isPresent}
+use Rattle.rules.specs.Picking.{hasEligible}
+use Rattle.rules.specs.Preemption.{preemptorOf}
+use Rattle.rules.specs.Setup.{settingsInRange}
+use Rattle.rules.proofs.Shape.{Shaped}
+use Rattle.choice.specs.Choosing.{waitingAt}
+use Rattle.choice.specs.Facts.{Reads}
+use Rattle.choice.proofs.Shapes.{length-mapped, each-at}
+use Rattle.choice.proofs.Credits.{index-fits, same-below}
+use Rattle.choice.proofs.Glue.{TurnRead, tally-reads, turn-read, not-found, first-read, has-first-read, placed-read}
+use Rattle.choice.proofs.Chosen.{slots-read, arrived-read, sold-read, job-read, nothing-chosen, all-chosen}
+use Rattle.choice.proofs.choose.Statement.{statement}
+use Rattle.choice.proofs.choose.Tie as tie
+
+queue-long : (c : tie.Start) (t : ℕ) → t < 4 → length (getD (c .args .w .queues) t zeroList .jobs) ≡ 32
+queue-long c t l =
+    let n : length (c .args .w .queues) ≡ 4 = length-mapped _ (c .args .w .queues) 4 (c .good .0 .1 .1 .1 .1 .1 .1 .1 .1 .0 .1 .0 .1) in
+    let e = each-at _ _ (c .args .w .queues) (c .good .0 .1 .1 .1 .1 .1 .1 .1 .1 .0 .0) t zeroList (subst (λ x. t < x) (sym n) l) (c .good .0 .1 .1 .1 .1 .1 .1 .1 .1 .0 .1 .1) in
+    length-mapped _ (getD (c .args .w .queues) t zeroList .jobs) 32 (e .1 .1 .1 .0 .1 .0 .1)
+
+-- a state that came in has its shape
+shaped : (c : tie.Start) → Shaped (c .args .w)
+shaped c =
+    record {
+      destinations = length-mapped _ (c .args .w .destinations) 32 (c .good .0 .1 .1 .1 .1 .1 .1 .0 .1 .0 .1);
+      busy = record { transport = length-mapped _ (c .args .w .busy .transport) 4 (c .good .0 .1 .1 .1 .1 .1 .1 .1 .0 .1 .1 .0 .1 .0 .1); destination = length-mapped _ (c .args .w .busy .destination) 32 (c .good .0 .1 .1 .1 .1 .1 .1 .1 .0 .1 .1 .1 .0 .1 .0 .1) };
+      queues = length-mapped _ (c .args .w .queues) 4 (c .good .0 .1 .1 .1 .1 .1 .1 .1 .1 .0 .1 .0 .1);
+      queue = λ t l. queue-long c t l;
+      arrivals = length-mapped _ (c .args .w .arrivals .jobs) 32 (c .good .0 .1 .1 .1 .1 .1 .1 .1 .1 .1 .0 .1 .1 .0 .1 .0 .1);
+      jobs =
+          record {
+            present = length-mapped _ (c .args .w .jobs .present) 32 (c .good .0 .1 .1 .1 .1 .1 .1 .1 .1 .1 .1 .0 .1 .1 .0 .1 .0 .1);
+            transport = length-mapped _ (c .args .w .jobs .transport) 32 (c .good .0 .1 .1 .1 .1 .1 .1 .1 .1 .1 .1 .0 .1 .1 .1 .0 .1 .0 .1);
+            n = length-mapped _ (c .args .w .jobs .n) 32 (c .good .0 .1 .1 .1 .1 .1 .1 .1 .1 .1 .1 .0 .1 .1 .1 .1 .0 .1 .0 .1);
+            picked = length-mapped _ (c .args .w .jobs .picked) 32 (c .good .0 .1 .1 .1 .1 .1 .1 .1 .1 .1 .1 .0 .1 .1 .1 .1 .1 .0 .1 .0 .1);
+            dropped = length-mapped _ (c .args .w .jobs .dropped) 32 (c .good .0 .1 .1 .1 .1 .1 .1 .1 .1 .1 .1 .0 .1 .1 .1 .1 .1 .1 .0 .1 .0 .1);
+            sold = length-mapped _ (c .args .w .jobs .sold) 32 (c .good .0 .1 .1 .1 .1 .1 .1 .1 .1 .1 .1 .0 .1 .1 .1 .1 .1 .1 .1 .0 .1 .0 .1);
+            parent = length-mapped _ (c .args .w .jobs .parent) 32 (c .good .0 .1 .1 .1 .1 .1 .1 .1 .1 .1 .1 .0 .1 .1 .1 .1 .1 .1 .1 .1 .0 .1 .0 .1);
+            preempted = length-mapped _ (c .args .w .jobs .preempted) 32 (c .good .0 .1 .1 .1 .1 .1 .1 .1 .1 .1 .1 .0 .1 .1 .1 .1 .1 .1 .1 .1 .1 .0 .1 .0 .1);
+            arrival = length-mapped _ (c .args .w .jobs .arrival) 32 (c .good .0 .1 .1 .1 .1 .1 .1 .1 .1 .1 .1 .0 .1 .1 .1 .1 .1 .1 .1 .1 .1 .1 .0 .1 .0 .1);
+            overtakers = length-mapped _ (c .args .w .jobs .overtakers) 32 (c .good .0 .1 .1 .1 .1 .1 .1 .1 .1 .1 .1 .0 .1 .1 .1 .1 .1 .1 .1 .1 .1 .1 .1 .0 .1 .0 .1);
+            turn = length-mapped _ (c .args .w .jobs .turn) 32 (c .good .0 .1 .1 .1 .1 .1 .1 .1 .1 .1 .1 .0 .1 .1 .1 .1 .1 .1 .1 .1 .1 .1 .1 .1 .0 .1 .0 .1);
+            places = length-mapped _ (c .args .w .jobs .places) 32 (c .good .0 .1 .1 .1 .1 .1 .1 .1 .1 .1 .1 .0 .1 .1 .1 .1 .1 .1 .1 .1 .1 .1 .1 .1 .1 .0 .1 .0 .1);
+            order = length-mapped _ (c .args .w .jobs .order) 1024 (c .good .0 .1 .1 .1 .1 .1 .1 .1 .1 .1 .1 .0 .1 .1 .1 .1 .1 .1 .1 .1 .1 .1 .1 .1 .1 .1 .0 .1 .0 .1);
+          };
+      entries =
+          record {
+            kind = length-mapped _ (c .args .w .entries .kind) 512 (c .good .0 .1 .1 .1 .1 .1 .1 .1 .1 .1 .1 .1 .0 .1 .1 .0 .1 .0 .1);
+            job = length-mapped _ (c .args .w .entries .job) 512 (c .good .0 .1 .1 .1 .1 .1 .1 .1 .1 .1 .1 .1 .0 .1 .1 .1 .0 .1 .0 .1);
+            destination = length-mapped _ (c .args .w .entries .destination) 512 (c .good .0 .1 .1 .1 .1 .1 .1 .1 .1 .1 .1 .1 .0 .1 .1 .1 .1 .0 .1 .0 .1);
+            ticket = length-mapped _ (c .args .w .entries .ticket) 512 (c .good .0 .1 .1 .1 .1 .1 .1 .1 .1 .1 .1 .1 .0 .1 .1 .1 .1 .1 .0 .1 .0 .1);
+          };
+    }
+
+-- a byte of the orders
+order-byte : (c : tie.Start) (i : ℕ) → at (c .args .w .jobs .order) i < 256
+order-byte c i = elem-fits-field w8 w8 (c .args .w .jobs .order) (c .good .0 .1 .1 .1 .1 .1 .1 .1 .1 .1 .1 .0 .1 .1 .1 .1 .1 .1 .1 .1 .1 .1 .1 .1 .1 .1 .0 .0) i (c .good .0 .1 .1 .1 .1 .1 .1 .1 .1 .1 .1 .0 .1 .1 .1 .1 .1 .1 .1 .1 .1 .1 .1 .1 .1 .1 .0 .1 .1) tt .fits
+
+tables : (c : tie.After-count-waiting) → Reads (c .before .before .before .before .before .before .before .before .before .before .before .before .before .before .args .w) (c .count-waiting .result .waits) (c .count-waiting .result .ready)
+tables c =
+    tally-reads (c .before .before .before .before .before .before .before .before .before .before .before .before .before .before .args .w) (c .before .before .before .before .before .before .before .before .before .before .before .before .before .before .pre .0) (c .before .before .before .before .before .before .open-table .result) (c .before .before .before .before .before .before .open-table .ensures)
+    (c .count-waiting .result .waits) (c .count-waiting .result .ready) (c .count-waiting .ensures .0) (c .count-waiting .ensures .1)
+
+turned : (c : tie.Else1) → TurnRead (c .before .before .before .before .before .before .before .before .before .before .before .before .before .before .before .before .before .before .before .before .args .w) (c .before .before .next-transport .result .transport) (c .before .before .next-transport .result .job) (c .before .before .next-transport .result .passed)
+turned c =
+    turn-read (c .before .before .before .before .before .before .before .before .before .before .before .before .before .before .before .before .before .before .before .before .args .w) (shaped (c .before .before .before .before .before .before .before .before .before .before .before .before .before .before .before .before .before .before .before .before)) (c .before .before .before .before .before .before .before .before .before .before .before .before .before .before .before .before .before .before .before .before .pre .0) (c .before .before .before .before .before .before .count-waiting .result .waits) (c .before .before .before .before .before .before .count-waiting .result .ready) (tables (c .before .before .before .before .before .before))
+    (c .before .before .next-transport .result .found) (c .before .before .next-transport .result .transport) (c .before .before .next-transport .result .job) (c .before .before .next-transport .result .passed)
+    (c .before .before .next-transport .ensures) (not-false (c .before .before .next-transport .result .found) (c .if1 .left))
+
+-- the settings of the transport, as the code reads them
+settings-at : (c : tie.After-wide) → settingsOf (c .before .before .before .before .before .before .before .before .before .before .before .before .before .before .before .before .before .before .before .before .before .args .w) (c .before .before .before .next-transport .result .transport) ≡ getD (c .before .before .before .before .before .before .before .before .before .before .before .before .before .before .before .before .before .before .before .before .before .args .w .setup .settings) (c .wide .result) zeroSettings
+settings-at c = ap (λ x. getD (c .before .before .before .before .before .before .before .before .before .before .before .before .before .before .before .before .before .before .before .before .before .args .w .setup .settings) x zeroSettings) (sym (c .wide .ensures .0))
+
+preempted : (c : tie.After-find-preemptor)
+    → (c .find-preemptor .result .link ≡ preemptorOf (c .before .before .before .before .before .before .before .before .before .before .before .before .before .before .before .before .before .before .before .before .before .before .before .before .before .before .args .w) (c .before .before .before .before .before .before .before .before .before .before .before .before .before .before .before .before .before .before .before .before .before .before .before .before .before .before .args .now) (c .before .before .before .before .before .before .before .before .next-transport .result .transport) (c .before .before .before .before .before .before .before .before .next-transport .result .job))
+    × (c .find-preemptor .result .waiting ≡ waitingAt (c .before .before .before .before .before .before .before .before .before .before .before .before .before .before .before .before .before .before .before .before .before .before .before .before .before .before .args .w) (c .find-preemptor .result .link))
+preempted c = c .find-preemptor .ensures .1 (c .before .before .before .before .before .before .before .before .before .before .before .before .before .before .before .before .before .before .before .before .before .before .before .before .before .before .args .w) refl refl (settings-at (c .before .before .before .before .before)) (tables (c .before .before .before .before .before .before .before .before .before .before .before .before))
+
+job-found : (c : tie.After-picked-from)
+    → (c .picked-from .result < 32) × (isPresent (c .before .before .before .before .before .before .before .before .before .before .before .before .before .before .before .before .before .before .before .before .before .before .before .before .before .before .before .args .w) (c .picked-from .result) ≡ true) × (hasEligible (c .before .before .before .before .before .before .before .before .before .before .before .before .before .before .before .before .before .before .before .before .before .before .before .before .before .before .before .args .w) (c .picked-from .result) ≡ true)
+job-found c =
+    let r = turned (c .before .before .before .before .before .before .before) in
+    job-read (c .before .before .before .before .before .before .before .before .before .before .before .before .before .before .before .before .before .before .before .before .before .before .before .before .before .before .before .args .w) (shaped (c .before .before .before .before .before .before .before .before .before .before .before .before .before .before .before .before .before .before .before .before .before .before .before .before .before .before .before)) (c .before .before .before .before .before .before .before .before .before .before .before .before .before .before .before .before .before .before .before .before .before .before .before .before .before .before .before .pre .0) (c .before .before .before .before .before .before .before .before .before .before .before .before .before .before .before .before .before .before .before .before .before .before .before .before .before .before .before .args .now) (c .before .before .before .before .before .before .before .before .before .next-transport .result .transport) (c .before .before .before .before .before .before .before .before .before .next-transport .result .job)
+    (c .before .find-preemptor .result .link) (c .picked-from .result) (r .transport .below) (r .is) (preempted (c .before) .0) (c .picked-from .ensures)
+
+from-below : (c : tie.After-wide2) → c .wide2 .result < 32
+from-below c = same-below (c .wide2 .result) (c .before .before .before .before .before .before .before .picked-from .result) 32 (c .wide2 .ensures .0) (job-found (c .before .before .before .before .before .before .before) .0)
+
+open-table-requires : tie.Need-open-table-requires
+open-table-requires c κs = c .before .before .before .before .before .before .before .pre .0 .setup
+
+count-waiting-requires : tie.Need-count-waiting-requires
+count-waiting-requires c κs = tt
+
+next-transport-requires : tie.Need-next-transport-requires
+next-transport-requires c κs = let h = c .before .before .before .before .before .before .before .before .before .before .before .before .before .before .before .before .before .pre .0 in (
+  h .setup .transports .0,
+  h .setup .transports .1,
+  h .turn,
+  shaped (c .before .before .before .before .before .before .before .before .before .before .before .before .before .before .before .before .before) .queues,
+  λ t l. (h .queues t l .count, shaped (c .before .before .before .before .before .before .before .before .before .before .before .before .before .before .before .before .before) .queue t (lt-of-lt-of-le l (h .setup .transports .1))),
+)
+
+returns : tie.Need-returns
+returns c = nothing-chosen (c .before .before .before .before .before .before .before .before .before .before .before .before .before .before .before .before .before .before .before .before .args .w) (c .before .before .before .before .before .before .before .before .before .before .before .before .before .before .before .before .before .before .before .before .args .now)
+    (not-found (c .before .before .before .before .before .before .before .before .before .before .before .before .before .before .before .before .before .before .before .before .args .w) (shaped (c .before .before .before .before .before .before .before .before .before .before .before .before .before .before .before .before .before .before .before .before)) (c .before .before .before .before .before .before .before .before .before .before .before .before .before .before .before .before .before .before .before .before .pre .0) (c .before .before .before .before .before .before .count-waiting .result .waits) (c .before .before .before .before .before .before .count-waiting .result .ready) (tables (c .before .before .before .before .before .before))
+    (c .before .before .next-transport .result .found) (c .before .before .next-transport .result .transport) (c .before .before .next-transport .result .job) (c .before .before .next-transport .result .passed) (c .before .before .next-transport .ensures)
+    (not-true (c .before .before .next-transport .result .found) (c .if1 .taken)))
+
+wide-requires : tie.Need-wide-requires
+wide-requires c κs = tt
+
+mul-settings : tie.Need-mul-settings
+mul-settings c = index-fits (c .wide .result) 104 (c .wide .ensures .1) (lit≤ tt)
+
+element-copy-out-settings : tie.Need-element-copy-out-settings
+element-copy-out-settings c = same-below (c .wide .result) (c .before .before .before .next-transport .result .transport) 4 (c .wide .ensures .0) (lt-of-lt-of-le (turned (c .before) .transport .below) (c .before .before .before .before .before .before .before .before .before .before .before .before .before .before .before .before .before .before .before .before .before .pre .0 .setup .transports .1))
+
+find-preemptor-requires : tie.Need-find-preemptor-requires
+find-preemptor-requires c κs = let h = c .before .before .before .before .before .before .before .before .before .before .before .before .before .before .before .before .before .before .before .before .before .before .before .before .before .pre .0 in
+    let r = turned (c .before .before .before .before .before) in
+    let g = slots-read (getD (c .before .before .before .before .before .before .before .before .before .before .before .before .before .before .before .before .before .before .before .before .before .before .before .before .before .args .w .setup .settings) (c .before .before .before .before .wide .result) zeroSettings)
+    (subst (λ x. settingsInRange x ≡ true) (settings-at (c .before .before .before .before)) (h .setup .settings (c .before .before .before .before .before .before .before .next-transport .result .transport) (r .transport .below))) in (
+      (c .before .before .before .before .before .before .before .before .before .before .before .before .before .before .before .before .before .before .before .before .before .before .before .before .before .pre .2, h .arrivals .count, shaped (c .before .before .before .before .before .before .before .before .before .before .before .before .before .before .before .before .before .before .before .before .before .before .before .before .before) .arrivals, arrived-read (c .before .before .before .before .before .before .before .before .before .before .before .before .before .before .before .before .before .before .before .before .before .before .before .before .before .args .w) (shaped (c .before .before .before .before .before .before .before .before .before .before .before .before .before .before .before .before .before .before .before .before .before .before .before .before .before)) h (c .before .before .before .before .before .before .before .before .before .before .before .before .before .before .before .before .before .before .before .before .before .before .before .before .before .args .now) (c .before .before .before .before .before .before .before .before .before .before .before .before .before .before .before .before .before .before .before .before .before .before .before .before .before .pre .1)),
+      (
+        r .is .below,
+        g .0,
+        g .1,
+        g .2,
+        g .3,
+        subst (λ x. x .cost * at (c .before .before .before .before .before .before .before .before .before .before .before .before .before .before .before .before .before .before .before .before .before .before .before .before .before .args .w .jobs .sold) (c .before .before .before .before .before .before .before .next-transport .result .job) ≤ 256) (settings-at (c .before .before .before .before))
+            (sold-read (c .before .before .before .before .before .before .before .before .before .before .before .before .before .before .before .before .before .before .before .before .before .before .before .before .before .args .w) (shaped (c .before .before .before .before .before .before .before .before .before .before .before .before .before .before .before .before .before .before .before .before .before .before .before .before .before)) h (c .before .before .before .before .before .before .before .next-transport .result .transport) (c .before .before .before .before .before .before .before .next-transport .result .job) (r .is)),
+      ),
+    )
+
+picked-from-requires : tie.Need-picked-from-requires
+picked-from-requires c κs = tt
+
+first-ready-requires : tie.Need-first-ready-requires
+first-ready-requires c κs = tt
+
+wide-requires-2 : tie.Need-wide-requires-2
+wide-requires-2 c κs = tt
+
+element-copy-out-places : tie.Need-element-copy-out-places
+element-copy-out-places c = from-below c
+
+element-copy-out-start : tie.Need-element-copy-out-start
+element-copy-out-start c = from-below (c .before)
+
+next-place-requires : tie.Need-next-place-requires
+next-place-requires c κs = let j = job-found (c .before .before .before .before .before .before .before .before .before .before .before .before) in
+    let s = c .before .before .before .before .before .before .before .before .before .before .before .before .before .before .before .before .before .before .before .before .before .before .before .before .before .before .before .before .before .before .before .before .before .before .before .before .before .before .before .pre .0 .jobs (c .before .before .before .before .before .before .before .before .before .before .before .before .picked-from .result) (j .0) (j .1) in (
+      j .0,
+      subst (λ x. at (c .before .before .before .before .before .before .before .before .before .before .before .before .before .before .before .before .before .before .before .before .before .before .before .before .before .before .before .before .before .before .before .before .before .before .before .before .before .before .before .args .w .jobs .places) x ≤ 32) (sym (c .before .before .before .before .before .wide2 .ensures .0)) (s .places),
+      subst (λ x. at (c .before .before .before .before .before .before .before .before .before .before .before .before .before .before .before .before .before .before .before .before .before .before .before .before .before .before .before .before .before .before .before .before .before .before .before .before .before .before .before .args .w .jobs .turn) x ≤ at (c .before .before .before .before .before .before .before .before .before .before .before .before .before .before .before .before .before .before .before .before .before .before .before .before .before .before .before .before .before .before .before .before .before .before .before .before .before .before .before .args .w .jobs .places) x) (sym (c .before .before .before .before .before .wide2 .ensures .0)) (s .turn),
+    )
+
+returns-2 : tie.Need-returns-2
+returns-2 c = let w = c .before .before .before .before .before .before .before .before .before .before .before .before .before .before .before .before .before .before .before .before .before .before .before .before .before .before .before .before .before .before .before .before .before .before .before .before .before .before .before .before .args .w in
+    let j = job-found (c .before .before .before .before .before .before .before .before .before .before .before .before .before) in
+    let r = turned (c .before .before .before .before .before .before .before .before .before .before .before .before .before .before .before .before .before .before .before .before) in
+    let p = preempted (c .before .before .before .before .before .before .before .before .before .before .before .before .before .before) in
+    let first = c .before .before .before .before .before .before .before .first-ready .result in
+    let room = c .before .before .before .before .before .before .before .before .before .before .before .before .before .before .before .before .before .before .before .before .before .before .before .before .before .before .before .before .before .before .before .before .open-table .result in
+    let k =
+    placed-read w (shaped (c .before .before .before .before .before .before .before .before .before .before .before .before .before .before .before .before .before .before .before .before .before .before .before .before .before .before .before .before .before .before .before .before .before .before .before .before .before .before .before .before)) (c .before .before .before .before .before .before .before .before .before .before .before .before .before .before .before .before .before .before .before .before .before .before .before .before .before .before .before .before .before .before .before .before .before .before .before .before .before .before .before .before .pre .0) (c .before .before .before .before .before .before .before .before .before .before .before .before .before .picked-from .result) (j .0) (j .1) (j .2) first (λ i. order-byte (c .before .before .before .before .before .before .before .before .before .before .before .before .before .before .before .before .before .before .before .before .before .before .before .before .before .before .before .before .before .before .before .before .before .before .before .before .before .before .before .before) _)
+    (first-read w (c .before .before .before .before .before .before .before .before .before .before .before .before .before .before .before .before .before .before .before .before .before .before .before .before .before .before .before .before .before .before .before .before .before .before .before .before .before .before .before .before .pre .0) room (c .before .before .before .before .before .before .before .before .before .before .before .before .before .before .before .before .before .before .before .before .before .before .before .before .before .before .before .before .before .before .before .before .open-table .ensures) (c .before .before .before .before .before .before .before .before .before .before .before .before .before .picked-from .result) first (c .before .before .before .before .before .before .before .first-ready .ensures))
+    (has-first-read w (c .before .before .before .before .before .before .before .before .before .before .before .before .before .before .before .before .before .before .before .before .before .before .before .before .before .before .before .before .before .before .before .before .before .before .before .before .before .before .before .before .pre .0) room (c .before .before .before .before .before .before .before .before .before .before .before .before .before .before .before .before .before .before .before .before .before .before .before .before .before .before .before .before .before .before .before .before .open-table .ensures) (c .before .before .before .before .before .before .before .before .before .before .before .before .before .picked-from .result) first (c .before .before .before .before .before .before .before .first-ready .ensures))
+    (c .before .before .before .before .before .before .wide2 .result) (c .next-place .result .place) (c .next-place .result .entry) (c .before .before .before .before .before .before .wide2 .ensures .0) (c .next-place .ensures)
+    in
+    all-chosen w (c .before .before .before .before .before .before .before .before .before .before .before .before .before .before .before .before .before .before .before .before .before .before .before .before .before .before .before .before .before .before .before .before .before .before .before .before .before .before .before .before .args .now) (c .before .before .before .before .before .before .before .before .before .before .before .before .before .before .before .before .before .before .before .before .before .before .next-transport .result .transport) (c .before .before .before .before .before .before .before .before .before .before .before .before .before .before .before .before .before .before .before .before .before .before .next-transport .result .job) (c .before .before .before .before .before .before .before .before .before .before .before .before .before .before .before .before .before .before .before .before .before .before .next-transport .result .passed)
+    (c .before .before .before .before .before .before .before .before .before .before .before .before .before .before .find-preemptor .result .link) (c .before .before .before .before .before .before .before .before .before .before .before .before .before .before .find-preemptor .result .waiting) (c .before .before .before .before .before .before .before .before .before .before .before .before .before .picked-from .result) (c .next-place .result .place) (c .next-place .result .entry)
+    (r .finds) (r .on) (r .current) (r .ahead) (p .0) (p .1) (c .before .before .before .before .before .before .before .before .before .before .before .before .before .picked-from .ensures) (k .0) (k .1)
+
+pub choose-spec : {M : Type 1} → statement M
+choose-spec =
+    tie.close
+    (tie.spec
+    open-table-requires
+    count-waiting-requires
+    next-transport-requires
+    returns
+    wide-requires
+    mul-settings
+    element-copy-out-settings
+    find-preemptor-requires
+    picked-from-requires
+    first-ready-requires
+    wide-requires-2
+    element-copy-out-places
+    element-copy-out-start
+    next-place-requires
+    returns-2)

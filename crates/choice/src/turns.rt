@@ -1,0 +1,113 @@
+// Turns: of the transports, and of the destinations of a job.
+use crate::entries::wide;
+use rules::JobList;
+ghost use mathlib.Core.Path.{_≡_};
+ghost use Prim.Native.Nat.{ℕ, _+_, _%_, _<_, _≤_};
+ghost use lib.ListN.{length, take};
+ghost use Rattle.rules.specs.Picking.{stepsTo};
+ghost use Rattle.choice.specs.Facts.{frontOf, aheadOf, Lists, Turned, hasFirst, Placed};
+
+// The first job of a list that is ready, and how many before it have a waiting entry.
+pub struct Front {
+    pub job: u8,
+    pub passed: u8,
+}
+
+fn find_front<'a>(
+    jobs: &[u8; 32],
+    count: u8,
+    waits: &'a [u16; 256],
+    ready: &'a [bool; 256],
+) -> Front
+    requires { ⌜ (count ≤ 32) × (length (now jobs) ≡ 32) ⌝ }
+    ensures job { λ r. ⌜ r .job ≡ frontOf (now (ready .entry)) (take count (now (jobs .entry))) ⌝ }
+    ensures passed { λ r. ⌜ (r .job < 32 → r .passed ≡ aheadOf (now (waits .entry)) (take count (now (jobs .entry))) (r .job)) ⌝ }
+{
+    let n = count as usize;
+    let mut passed: u8 = 0;
+    let mut i: usize = 0;
+    while i < n {
+        let job = jobs[i];
+        let j = wide(job);
+        if ready[j] {
+            return Front { job, passed };
+        }
+        if 0 < waits[j] {
+            passed += 1;
+        }
+        i += 1;
+    }
+    Front { job: 32, passed: 0 }
+}
+
+// The transport whose turn it is, its current job, and how many jobs that passes over.
+pub struct Turn {
+    pub found: bool,
+    pub transport: u8,
+    pub job: u8,
+    pub passed: u8,
+}
+
+pub fn next_transport<'a>(
+    queues: [JobList; 4],
+    transports: u64,
+    start: u8,
+    waits: &'a [u16; 256],
+    ready: &'a [bool; 256],
+) -> Turn
+    requires { ⌜ (1 ≤ transports) × (transports ≤ 4) × (start ≤ transports) × (length queues ≡ 4) × (Lists queues transports) ⌝ }
+    ensures { λ r. ⌜ Turned queues transports start (now (waits .entry)) (now (ready .entry)) (r .found) (r .transport) (r .job) (r .passed) ⌝ }
+{
+    let n = transports as usize;
+    let from = start as usize;
+    let mut i: usize = 0;
+    while i < n {
+        let t = (from + i) % n;
+        let q = queues[t];
+        let front = find_front(&q.jobs, q.count, waits, ready);
+        if front.job < 32 {
+            return Turn {
+                found: true,
+                transport: t as u8,
+                job: front.job,
+                passed: front.passed,
+            };
+        }
+        i += 1;
+    }
+    Turn {
+        found: false,
+        transport: 0,
+        job: 0,
+        passed: 0,
+    }
+}
+
+// The place in a job's order of destinations whose turn it is, and its first entry.
+pub struct Next {
+    pub place: u8,
+    pub entry: u16,
+}
+
+pub fn next_place(order: &[u8; 1024], j: u8, places: u8, start: u8, first: &[u16; 256]) -> Next
+    requires { ⌜ (j < 32) × (places ≤ 32) × (start ≤ places) ⌝ }
+    ensures { λ r. ⌜ (stepsTo (hasFirst (now (order .entry)) (now (first .entry)) j) places start < places → Placed (now (order .entry)) (now (first .entry)) j places start (r .place) (r .entry)) ⌝ }
+{
+    let n = places as usize;
+    let from = start as usize;
+    let base = 32 * (j as usize);
+    let mut step: usize = 0;
+    while step < n {
+        let k = (from + step) % n;
+        let d = wide(order[base + k]);
+        let e = first[d];
+        if e < 512 {
+            return Next {
+                place: k as u8,
+                entry: e,
+            };
+        }
+        step += 1;
+    }
+    Next { place: 0, entry: 0 }
+}

@@ -1,0 +1,73 @@
+-- A list of job numbers that a pass builds: what it wrote, and zeros behind that.
+use Prim.Native.Nat.{ℕ, zero, suc, _+_, _-_, _≤_, _<_}
+use mathlib.Core.Bool.{Bool, true, false}
+use mathlib.Core.Path.{_≡_, refl, sym, ap, _∙_}
+use mathlib.Core.List.{List, [], _∷_, _++_}
+use native.Mathlib.Numerals.{add-one}
+use native.Mathlib.Omega.{arith}
+use lib.ListN.{length, getD, take, set, length-append}
+use lib.Seq.{take-suc, length-take-le}
+use Rattle.laws.specs.Choice.{if_then_else_}
+use Rattle.laws.specs.Sequence.{keep, padded}
+use Rattle.laws.proofs.Choice.{if-true, if-false}
+use Rattle.laws.proofs.Sequence.{set-padded-end}
+use Rattle.laws.proofs.Keep.{length-keep-le}
+use Rattle.laws.proofs.Index.{keep-take}
+use Rattle.rules.specs.declared.JobList.{JobList}
+use Rattle.rules.specs.State.{listed}
+
+pub length-snoc : (l : List ℕ) (x : ℕ) → length (l ++ (x ∷ [])) ≡ length l + 1
+length-snoc l x = length-append l (x ∷ [])
+
+-- one more is written behind what was
+module _ (n : ℕ) (l : List ℕ) {a : List ℕ} {m : ℕ} (x : ℕ) where
+  pub put-at : a ≡ padded n l → m ≡ length l → m < n → set a m x ≡ padded n (l ++ (x ∷ []))
+  put-at e k h = rw (e, k) (set-padded-end n l x (rw (← k) h))
+
+-- a pass that copies
+module _ (n : ℕ) (l : List ℕ) (i : ℕ) (a : List ℕ) where
+  pub copy-step : a ≡ padded n (take i l) → i < length l → i < n → set a i (getD l i 0) ≡ padded n (take (i + 1) l)
+  copy-step e h k =
+      let w : length (take i l) ≡ i = length-take-le i l (omega arith) in
+      rw (add-one, take-suc l i 0) (put-at n (take i l) (getD l i 0) e (sym w) k)
+
+-- a pass that keeps what a test says
+module _ (p : ℕ → Bool) (l : List ℕ) (i : ℕ) where
+  pub length-keep-take : i ≤ length l → length (keep p (take i l)) ≤ i
+  length-keep-take h = omega (arith, length-keep-le p (take i l), length-take-le i l h)
+
+  pub keep-more : i < length l → p (getD l i 0) ≡ true → keep p (take (i + 1) l) ≡ keep p (take i l) ++ (getD l i 0 ∷ [])
+  keep-more h t = rw add-one (keep-take p l 0 i h ∙ if-true _ _ t)
+
+  pub keep-fewer : i < length l → p (getD l i 0) ≡ false → keep p (take (i + 1) l) ≡ keep p (take i l)
+  keep-fewer h f = rw add-one (keep-take p l 0 i h ∙ if-false _ _ f)
+
+  module _ (size : ℕ) {a b : List ℕ} {m k : ℕ} (h : i < length l) where
+    pub keep-put :
+        a ≡ padded size (keep p (take i l))
+        → m ≡ length (keep p (take i l))
+        → i < size
+        → p (getD l i 0) ≡ true
+        → b ≡ set a m (getD l i 0)
+        → k ≡ m + 1
+        → (b ≡ padded size (keep p (take (i + 1) l))) × (k ≡ length (keep p (take (i + 1) l)))
+    keep-put e f g t wrote more =
+        let r = keep-more h t in
+        let room : m < size = omega (arith, length-keep-take (omega arith)) in (
+          wrote ∙ put-at size (keep p (take i l)) (getD l i 0) e f room ∙ ap (padded size) (sym r),
+          more ∙ ap (λ x. x + 1) f ∙ sym (length-snoc (keep p (take i l)) (getD l i 0)) ∙ ap length (sym r),
+        )
+
+    pub keep-skip :
+        a ≡ padded size (keep p (take i l))
+        → m ≡ length (keep p (take i l))
+        → p (getD l i 0) ≡ false
+        → b ≡ a
+        → k ≡ m
+        → (b ≡ padded size (keep p (take (i + 1) l))) × (k ≡ length (keep p (take (i + 1) l)))
+    keep-skip e f t wrote more =
+        let r = keep-fewer h t in
+        (wrote ∙ e ∙ ap (padded size) (sym r), more ∙ f ∙ ap length (sym r))
+
+pub listed-is : (l a : List ℕ) (k : ℕ) → a ≡ padded 32 l → k ≡ length l → _≡_ {A = JobList} (record { jobs = a; count = k }) (listed l)
+listed-is l a k e h = rw (e, h)
