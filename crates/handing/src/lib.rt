@@ -1,12 +1,17 @@
 // What a pick writes: a preemption, and an entry handed out.
+use rules::PickAnswer;
+use rules::PickReply;
 use rules::State;
 ghost use mathlib.Core.Path.{_≡_};
-ghost use mathlib.Core.Bool.{true};
-ghost use Prim.Native.Nat.{_+_, _%_, _<_, _≤_};
+ghost use Prim.Native.Nat.{_+_, _%_};
 ghost use Rattle.rules.specs.Sizes.{tickets};
-ghost use Rattle.rules.specs.State.{at};
 ghost use Rattle.rules.specs.Preemption.{preempting};
+ghost use mathlib.Core.List.{[]};
+ghost use Rattle.rules.specs.Windows.{woken};
 ghost use Rattle.rules.specs.Pick.{handedOut};
+ghost use Rattle.rules.specs.Refusals.{pickRefusal};
+ghost use Rattle.rules.specs.Calls.{afterPick};
+ghost use Rattle.rules.specs.Answers.{pickSays};
 ghost use Rattle.handing.specs.May.{MayPreempt, MayHandOut};
 
 // The ticket after t: it rolls from 4,294,967,295 back to 0.
@@ -62,4 +67,45 @@ pub fn hand_out(w: State, t: u8, j: u8, place: u8, e: u16) -> State
     next.ticket = next_ticket(w.ticket);
     next.turn = t + 1;
     next
+}
+
+// The pick of a sound state at a clock in order, both tested before: the next entry where one is eligible.
+pub fn pick(s: State, now: u64) -> PickReply
+    requires { ⌜ pickRefusal s now ≡ 0 ⌝ }
+    ensures { λ r. ⌜ record { says = pickSays (r .answer); state = r .state; buffer = [] } ≡ afterPick (woken s now) now ⌝ }
+{
+    let u = s.setup;
+    let old = s.destinations;
+    let ds = window::wake(old, u, now);
+    let mut w = s;
+    w.clock = now as u32;
+    w.destinations = ds;
+    let c = choice::choose(w, now);
+    if !c.found {
+        return PickReply {
+            answer: PickAnswer::Nothing,
+            state: w,
+        };
+    }
+    if c.preemptor == 0 {
+        return PickReply {
+            answer: PickAnswer::Picked {
+                job: c.job,
+                entry: c.entry,
+                ticket: s.ticket,
+                passed: c.passed,
+            },
+            state: hand_out(w, c.transport, c.job, c.place, c.entry),
+        };
+    }
+    let moved = preempt(w, c.transport, c.job, c.current, c.waiting);
+    PickReply {
+        answer: PickAnswer::Picked {
+            job: c.job,
+            entry: c.entry,
+            ticket: s.ticket,
+            passed: c.passed,
+        },
+        state: hand_out(moved, c.transport, c.job, c.place, c.entry),
+    }
 }

@@ -11,6 +11,7 @@ use Rattle.laws.specs.Choice.{if_then_else_}
 use Rattle.rules.specs.declared.Setup.{Setup}
 use Rattle.rules.specs.declared.State.{State}
 use Rattle.rules.specs.declared.Outcome.{Outcome}
+use Rattle.rules.specs.Sizes.{lastSecond}
 use Rattle.rules.specs.State.{at, destinationOf, isPresent}
 use Rattle.rules.specs.Setup.{setupInRange, zeroState, freshState}
 use Rattle.rules.specs.Sound.{sound}
@@ -139,10 +140,18 @@ module _ (s : State) (now : ℕ) where
   unfolding pickReply pickRefusal
   pick-unsound h = let q = first-test (sound s) _ h in refusing 1 _ s [] _ (sym q) (one-not-zero _ q)
 
-  pub pick-bad-clock : sound s ≡ true → badClock s now ≡ true → record { says = refused 3; state = s; buffer = [] } ≡ pickReply s now
-  unfolding pickReply pickRefusal unlessRefused if_then_else_
-  pick-bad-clock h b = rw (h, b) refl
+  pub pick-early : sound s ≡ true → now < s .clock → record { says = refused 3; state = s; buffer = [] } ≡ pickReply s now
+  unfolding pickReply pickRefusal badClock unlessRefused if_then_else_
+  pick-early h l = rw (h, lt-ltb now (s .clock) l) refl
 
-  pub pick-made : (x : Reply) → sound s ≡ true → badClock s now ≡ false → x ≡ afterPick (woken s now) now → x ≡ pickReply s now
-  unfolding pickReply pickRefusal unlessRefused if_then_else_
-  pick-made x h b e = rw (h, b) e
+  pub pick-late : sound s ≡ true → s .clock ≤ now → lastSecond < now → record { says = refused 3; state = s; buffer = [] } ≡ pickReply s now
+  unfolding pickReply pickRefusal badClock unlessRefused if_then_else_
+  pick-late h e l = rw (h, le-ltb now (s .clock) e, lt-ltb lastSecond now l) refl
+
+  pub pick-unrefused : sound s ≡ true → s .clock ≤ now → now ≤ lastSecond → pickRefusal s now ≡ 0
+  unfolding pickRefusal badClock if_then_else_
+  pick-unrefused h e l = rw (h, le-ltb now (s .clock) e, le-ltb lastSecond now l) refl
+
+  pub pick-made : (x : Reply) → pickRefusal s now ≡ 0 → x ≡ afterPick (woken s now) now → x ≡ pickReply s now
+  unfolding pickReply
+  pick-made x e h = accepting (pickRefusal s now) s [] x _ e h

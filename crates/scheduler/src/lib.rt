@@ -3,13 +3,15 @@
 // buffer.
 use rules::AskAnswer;
 use rules::BoardAnswer;
+use rules::PickAnswer;
+use rules::PickReply;
 use rules::Setup;
 use rules::SetupAnswer;
 use rules::SetupReply;
 use rules::State;
 ghost use mathlib.Core.Path.{_≡_};
-ghost use Rattle.rules.specs.Calls.{setupReply, askReply, boardReply};
-ghost use Rattle.scheduler.specs.Gave.{setupGave, askGave, boardGave};
+ghost use Rattle.rules.specs.Calls.{setupReply, pickReply, askReply, boardReply};
+ghost use Rattle.scheduler.specs.Gave.{setupGave, pickGave, askGave, boardGave};
 
 // The state of a set-up. A refused one gives the state of all zeros.
 pub fn set_up(u: Setup) -> SetupReply
@@ -61,4 +63,29 @@ pub fn board(s: State, buffer: &mut [u8]) -> BoardAnswer
     }
     let n = board::write(s.clock, count, ds, busy, buffer);
     BoardAnswer::Written(n as u64)
+}
+
+// The next entry, with its ticket and the number of jobs passed over; nothing where no entry is eligible.
+pub fn pick(s: State, now: u64) -> PickReply
+    ensures { λ r. ⌜ pickGave r ≡ pickReply s now ⌝ }
+{
+    if !soundness::sound(s) {
+        return PickReply {
+            answer: PickAnswer::Refused(1),
+            state: s,
+        };
+    }
+    if now < (s.clock as u64) {
+        return PickReply {
+            answer: PickAnswer::Refused(3),
+            state: s,
+        };
+    }
+    if 4294967295 < now {
+        return PickReply {
+            answer: PickAnswer::Refused(3),
+            state: s,
+        };
+    }
+    handing::pick(s, now)
 }

@@ -10,6 +10,8 @@ ghost use Rattle.laws.specs.Range.{allTo};
 ghost use Rattle.rules.specs.State.{at};
 ghost use Rattle.soundness.specs.Columns.{columns, Tallied};
 
+// One pass over the entries: whether each is free, or waiting or busy, of a present job whose order has its destination, on the destination's
+// transport; and the counts.
 pub fn count_entries<'a, 'b>(
     kind: &'a [u8; 512],
     job: &'a [u8; 512],
