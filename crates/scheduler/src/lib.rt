@@ -3,6 +3,8 @@
 // buffer.
 use rules::AskAnswer;
 use rules::BoardAnswer;
+use rules::JobAnswer;
+use rules::JobReply;
 use rules::PickAnswer;
 use rules::PickReply;
 use rules::Setup;
@@ -10,8 +12,8 @@ use rules::SetupAnswer;
 use rules::SetupReply;
 use rules::State;
 ghost use mathlib.Core.Path.{_≡_};
-ghost use Rattle.rules.specs.Calls.{setupReply, pickReply, askReply, boardReply};
-ghost use Rattle.scheduler.specs.Gave.{setupGave, pickGave, askGave, boardGave};
+ghost use Rattle.rules.specs.Calls.{setupReply, jobReply, pickReply, askReply, boardReply};
+ghost use Rattle.scheduler.specs.Gave.{setupGave, jobGave, pickGave, askGave, boardGave};
 
 // The state of a set-up. A refused one gives the state of all zeros.
 pub fn set_up(u: Setup) -> SetupReply
@@ -88,4 +90,25 @@ pub fn pick(s: State, now: u64) -> PickReply
         };
     }
     handing::pick(s, now)
+}
+
+// A job with an entry for each destination. Positions of entries put off at once go to the lent list; places past
+// them stay.
+pub fn take_job(s: State, now: u64, transport: u64, dests: &[u64], list: &mut [u16]) -> JobReply
+    ensures { λ r. ⌜ jobGave r (list .exit .now) ≡ jobReply s now transport (dests .entry .now) (list .entry .now) ⌝ }
+{
+    if !soundness::sound(s) {
+        return JobReply {
+            answer: JobAnswer::Refused(1),
+            state: s,
+        };
+    }
+    let k = taking::refusal(s, now, transport, dests, list.len());
+    if k != 0 {
+        return JobReply {
+            answer: JobAnswer::Refused(k),
+            state: s,
+        };
+    }
+    taking::take(s, now, transport, dests, list)
 }

@@ -1,0 +1,39 @@
+-- What taking reads of a state, over the columns that its functions are lent.
+use Prim.Native.Nat.{ℕ}
+use mathlib.Core.Bool.{Bool, true, false, not, _&&_}
+use mathlib.Core.Path.{_≡_}
+use mathlib.Core.List.{List}
+use lib.ListN.{length, getD}
+use lib.Dec.{eqb, ltb}
+use Rattle.laws.specs.Range.{chosenTo}
+use Rattle.laws.specs.Sequence.{keep, padded}
+use Rattle.rules.specs.declared.Destination.{Destination}
+use Rattle.rules.specs.State.{at, zeroDestination, isLive}
+use Rattle.rules.specs.Calls.{written}
+use Rattle.taking.specs.declared.Parts.{Parts}
+
+-- `isDead`, of the destinations
+unfoldable pub deadOn : List Destination → ℕ → Bool
+deadOn ds d = not (isLive (getD ds d zeroDestination .health))
+
+-- `isDestinationOn`, of a set-up's homes and its number of destinations
+unfoldable pub onTransport : List ℕ → ℕ → ℕ → ℕ → Bool
+onTransport home count t d = ltb d count && eqb (at home d) t
+
+-- `isFree`, of the column of kinds
+unfoldable pub freeIn : List ℕ → ℕ → Bool
+freeIn kind e = eqb (at kind e) 0
+
+-- `keptOf` and `putOffPositions`, by a table of the dead
+unfoldable pub keptBy : List Bool → List ℕ → List ℕ
+keptBy dead dests = keep (λ d. not (getD dead d false)) dests
+
+unfoldable pub putOffBy : List Bool → List ℕ → List ℕ
+putOffBy dead dests = chosenTo (λ i. getD dead (at dests i) false) (length dests)
+
+-- a job's destinations parted: those that wait, and the positions of those put off, which stand in the list
+pub record Parted (dead : List Bool) (dests before after : List ℕ) (r : Parts) : Type 0 where
+  pub kept : r .kept ≡ padded 256 (keptBy dead dests)
+  pub n : r .n ≡ length (keptBy dead dests)
+  pub putoff : r .putoff ≡ length (putOffBy dead dests)
+  pub list : after ≡ written (putOffBy dead dests) before
