@@ -63,7 +63,7 @@ walk-more parent sums m depth link v p q e = rw e (sym (along-step (at parent) (
 
 -- Of a sound state.
 
-leads-present : (w : State) → Shaped w → Sound w → (n link : ℕ) → ((x : ℕ) → link ≡ suc x → isPresent w x ≡ true) → leadsInside (parentOf w) n link ≡ true
+pub leads-present : (w : State) → Shaped w → Sound w → (n link : ℕ) → ((x : ℕ) → link ≡ suc x → isPresent w x ≡ true) → leadsInside (parentOf w) n link ≡ true
 unfolding leadsInside
 leads-present w shape h zero link p = refl
 leads-present w shape h (suc n) zero p = refl

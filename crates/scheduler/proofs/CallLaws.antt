@@ -16,6 +16,8 @@ use Rattle.rules.specs.State.{at, destinationOf, isPresent}
 use Rattle.rules.specs.Setup.{setupInRange, zeroState, freshState}
 use Rattle.rules.specs.Sound.{sound}
 use Rattle.rules.proofs.Soundness.{sound-facts}
+use Rattle.rules.proofs.Accepted.{report-accepted}
+use Rattle.leaving.specs.Columns.{CanReport}
 use Rattle.rules.specs.Windows.{woken}
 use Rattle.rules.specs.Reporting.{reporting}
 use Rattle.rules.specs.Board.{textOf, boardText}
@@ -84,6 +86,11 @@ module _ (s : State) (now e ticket : ℕ) (outcome : Outcome) (list : List ℕ) 
       → record { says = refused k; state = s; buffer = list } ≡ reportReply s now e ticket outcome list
   unfolding reportReply
   report-refused k q h = refusing k (reportRefusal s now e ticket list) s list _ q (λ z. h (q ∙ z))
+
+  pub report-can : reportRefusal s now e ticket list ≡ 0 → CanReport s now e (length list)
+  report-can q =
+      let a = report-accepted s now e ticket list q in
+      record { whole = a .whole; later = a .clock .later; early = a .clock .early; inside = a .entry; busy = a .busy; lent = a .lent }
 
   pub report-made : (x : Reply) → reportRefusal s now e ticket list ≡ 0
       → x ≡ reportingReply (reporting (woken s now) now e (destinationOf s e) outcome) list → x ≡ reportReply s now e ticket outcome list

@@ -5,15 +5,18 @@ use rules::AskAnswer;
 use rules::BoardAnswer;
 use rules::JobAnswer;
 use rules::JobReply;
+use rules::Outcome;
 use rules::PickAnswer;
 use rules::PickReply;
+use rules::ReportAnswer;
+use rules::ReportReply;
 use rules::Setup;
 use rules::SetupAnswer;
 use rules::SetupReply;
 use rules::State;
 ghost use mathlib.Core.Path.{_≡_};
-ghost use Rattle.rules.specs.Calls.{setupReply, jobReply, pickReply, askReply, boardReply};
-ghost use Rattle.scheduler.specs.Gave.{setupGave, jobGave, pickGave, askGave, boardGave};
+ghost use Rattle.rules.specs.Calls.{setupReply, jobReply, pickReply, reportReply, askReply, boardReply};
+ghost use Rattle.scheduler.specs.Gave.{setupGave, jobGave, pickGave, reportGave, askGave, boardGave};
 
 // The state of a set-up. A refused one gives the state of all zeros.
 pub fn set_up(u: Setup) -> SetupReply
@@ -111,4 +114,31 @@ pub fn take_job(s: State, now: u64, transport: u64, dests: &[u64], list: &mut [u
         };
     }
     taking::take(s, now, transport, dests, list)
+}
+
+// The outcome of a delivery, by entry and ticket. Entries that it puts off go to the lent list; places past them stay.
+pub fn report(
+    s: State,
+    now: u64,
+    entry: u64,
+    ticket: u64,
+    outcome: Outcome,
+    list: &mut [u16],
+) -> ReportReply
+    ensures { λ r. ⌜ reportGave r (list .exit .now) ≡ reportReply s now entry ticket outcome (list .entry .now) ⌝ }
+{
+    if !soundness::sound(s) {
+        return ReportReply {
+            answer: ReportAnswer::Refused(1),
+            state: s,
+        };
+    }
+    let k = leaving::refusal(s, now, entry, ticket, list.len());
+    if k != 0 {
+        return ReportReply {
+            answer: ReportAnswer::Refused(k),
+            state: s,
+        };
+    }
+    leaving::report(s, now, entry, outcome, list)
 }

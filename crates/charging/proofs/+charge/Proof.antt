@@ -1,3 +1,4 @@
+-- The cycle of calls {charge}: the measure is the depth that is left; each call charges one job and hands on its link. Assumes nothing.
 use native.Mathlib.Omega.{arith}
 use mathlib.Core.Path.{_∙_}
 use Rattle.charging.proofs.Leads.{leads-below, leads-next, walk-none, walk-end, walk-more}
@@ -20,7 +21,6 @@ charge-at t = and 2 charge-kinds.ps (is 2 charge-kinds.ps μ-charge t) charge.Pr
 abbrev charge-below : ℕ → In 2 charge-kinds.ps
 charge-below t = and 2 charge-kinds.ps (falls 2 charge-kinds.ps _<_ μ-charge t) charge.Pre
 
--- src/lib.rt:26:9
 charge-returns : (t : ℕ) → charge-lts.Need-returns (
   added-reads.Asked,
   added-reads.Learnt,
@@ -29,7 +29,6 @@ charge-returns : (t : ℕ) → charge-lts.Need-returns (
 ) (charge-at t) charge.Post
 charge-returns t c = walk-none _ _ _ _ _ (c .if1 .taken)
 
--- src/lib.rt:29:9
 charge-returns-2 : (t : ℕ) → charge-lts.Need-returns-2 (
   added-reads.Asked,
   added-reads.Learnt,
@@ -38,7 +37,6 @@ charge-returns-2 : (t : ℕ) → charge-lts.Need-returns-2 (
 ) (charge-at t) charge.Post
 charge-returns-2 t c = walk-end _ _ _ _ _ (c .if2 .taken)
 
--- src/lib.rt:31:14
 charge-sub-j : (t : ℕ) → charge-lts.Need-sub-j (
   added-reads.Asked,
   added-reads.Learnt,
@@ -47,7 +45,6 @@ charge-sub-j : (t : ℕ) → charge-lts.Need-sub-j (
 ) (charge-at t) charge.Post
 charge-sub-j t c = omega arith
 
--- src/lib.rt:31:13
 charge-cast-j : (t : ℕ) → charge-lts.Need-cast-j (
   added-reads.Asked,
   added-reads.Learnt,
@@ -56,7 +53,6 @@ charge-cast-j : (t : ℕ) → charge-lts.Need-cast-j (
 ) (charge-at t) charge.Post
 charge-cast-j t c = omega arith
 
--- src/lib.rt:32:21
 charge-mul-added : (t : ℕ) → charge-lts.Need-mul-added (
   added-reads.Asked,
   added-reads.Learnt,
@@ -65,7 +61,6 @@ charge-mul-added : (t : ℕ) → charge-lts.Need-mul-added (
 ) (charge-at t) charge.Post
 charge-mul-added t c = omega (arith, leads-below _ _ _ (omega arith) (omega arith) (c .before .before .pre .1))
 
--- src/lib.rt:32:21
 charge-element-copy-out-added : (t : ℕ) → charge-lts.Need-element-copy-out-added (
   added-reads.Asked,
   added-reads.Learnt,
@@ -74,7 +69,6 @@ charge-element-copy-out-added : (t : ℕ) → charge-lts.Need-element-copy-out-a
 ) (charge-at t) charge.Post
 charge-element-copy-out-added t c = leads-below _ _ _ (omega arith) (omega arith) (c .before .before .pre .1)
 
--- src/lib.rt:32:15
 charge-added-requires : (t : ℕ) → charge-lts.Need-added-requires (
   added-reads.Asked,
   added-reads.Learnt,
@@ -83,7 +77,6 @@ charge-added-requires : (t : ℕ) → charge-lts.Need-added-requires (
 ) (charge-at t) charge.Post
 charge-added-requires t c κs = tt
 
--- src/lib.rt:32:5
 charge-mul-sums : (t : ℕ) → charge-lts.Need-mul-sums (
   added-reads.Asked,
   added-reads.Learnt,
@@ -92,7 +85,6 @@ charge-mul-sums : (t : ℕ) → charge-lts.Need-mul-sums (
 ) (charge-at t) charge.Post
 charge-mul-sums t c = omega (arith, leads-below _ _ _ (omega arith) (omega arith) (c .before .before .before .before .pre .1))
 
--- src/lib.rt:32:5
 charge-element-write-sums : (t : ℕ) → charge-lts.Need-element-write-sums (
   added-reads.Asked,
   added-reads.Learnt,
@@ -101,7 +93,6 @@ charge-element-write-sums : (t : ℕ) → charge-lts.Need-element-write-sums (
 ) (charge-at t) charge.Post
 charge-element-write-sums t c = leads-below _ _ _ (omega arith) (omega arith) (c .before .before .before .before .pre .1)
 
--- src/lib.rt:33:26
 charge-element-copy-out-charge : (t : ℕ) → charge-lts.Need-element-copy-out-charge (
   added-reads.Asked,
   added-reads.Learnt,
@@ -110,7 +101,6 @@ charge-element-copy-out-charge : (t : ℕ) → charge-lts.Need-element-copy-out-
 ) (charge-at t) charge.Post
 charge-element-copy-out-charge t c = leads-below _ _ _ (omega arith) (omega arith) (c .before .before .before .before .before .pre .1)
 
--- src/lib.rt:33:40
 charge-sub-charge : (t : ℕ) → charge-lts.Need-sub-charge (
   added-reads.Asked,
   added-reads.Learnt,
@@ -119,7 +109,6 @@ charge-sub-charge : (t : ℕ) → charge-lts.Need-sub-charge (
 ) (charge-at t) charge.Post
 charge-sub-charge t c = omega arith
 
--- src/lib.rt:33:5
 charge-charge-requires : (t : ℕ) → charge-lts.Need-charge-requires (
   added-reads.Asked,
   added-reads.Learnt,
@@ -128,7 +117,6 @@ charge-charge-requires : (t : ℕ) → charge-lts.Need-charge-requires (
 ) (charge-at t) charge.Post
 charge-charge-requires t c κs = (omega arith, leads-next _ _ _ (omega arith) (omega arith) (c .before .before .before .before .before .before .pre .1))
 
--- src/lib.rt:21:1
 charge-returns-3 : (t : ℕ) → charge-lts.Need-returns-3 (
   added-reads.Asked,
   added-reads.Learnt,

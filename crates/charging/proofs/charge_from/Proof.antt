@@ -1,3 +1,4 @@
+-- The chain from the job itself, at the full depth. Assumes nothing.
 use native.Mathlib.Omega.{arith}
 use native.Mathlib.Numerals.{add-one}
 use Prim.Native.Nat.{suc}
@@ -6,19 +7,13 @@ use Rattle.rules.specs.Preemption.{charged}
 use Rattle.charging.proofs.Leads.{leads-below}
 use Rattle.charging.proofs.charge_from.Statement.{statement}
 use Rattle.charging.proofs.charge_from.Tie as tie
-use Rattle.charging.proofs.charge_from.Reads as reads
-use Rattle.charging.proofs.charge_from.Lts as lts
-use Rattle.charging.proofs.charge.Reads as charge-reads
 
--- src/lib.rt:41:26
 add-charge : tie.Need-add-charge
 add-charge c = let h = leads-below _ 32 (suc (c .before .args .y)) (omega arith) (omega arith) (c .before .pre) in omega arith
 
--- src/lib.rt:41:5
 charge-requires : tie.Need-charge-requires
 charge-requires c κs = rw add-one (c .before .pre)
 
--- src/lib.rt:37:1
 returns : tie.Need-returns
 unfolding charged
 returns c = c .charge .ensures ∙ rw add-one refl

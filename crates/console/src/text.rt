@@ -1,0 +1,135 @@
+// Bytes of a line: finding one, and words read as numbers.
+ghost use Prim.Native.Nat.{_≤_};
+ghost use lib.ListN.{length};
+
+// The first place from `from` on, before `to`, that holds the byte; `to` where there is none.
+pub fn find(s: &[u8], from: usize, to: usize, byte: u8) -> usize
+    requires { ⌜ (from ≤ to) × (to ≤ length (now s)) ⌝ }
+    ensures { λ r. ⌜ (from ≤ r) × (r ≤ to) ⌝ }
+{
+    let mut i = from;
+    while i < to {
+        if s[i] == byte {
+            return i;
+        }
+        i += 1;
+    }
+    i
+}
+
+// The first place from `from` on that holds no blank; the length where there is none.
+pub fn skip_blanks(s: &[u8], from: usize) -> usize
+    requires { ⌜ from ≤ length (now s) ⌝ }
+    ensures { λ r. ⌜ (from ≤ r) × (r ≤ length (now (s .entry))) ⌝ }
+{
+    let mut i = from;
+    while i < s.len() {
+        if s[i] != 32 {
+            return i;
+        }
+        i += 1;
+    }
+    i
+}
+
+// Whether the two are the same bytes.
+pub fn same(a: &[u8], b: &[u8]) -> bool {
+    if a.len() != b.len() {
+        return false;
+    }
+    let mut i: usize = 0;
+    while i < a.len() {
+        if a[i] != b[i] {
+            return false;
+        }
+        i += 1;
+    }
+    true
+}
+
+// Moves the bytes from `from` up to `to` to the front.
+pub fn shift(s: &mut [u8], from: usize, to: usize)
+    requires { ⌜ (from ≤ to) × (to ≤ length (now s)) ⌝ }
+{
+    let mut i = from;
+    while i < to {
+        let b = s[i];
+        s[i - from] = b;
+        i += 1;
+    }
+}
+
+// A number, or `most` where it is more.
+pub fn at_most(x: u64, most: usize) -> usize
+    ensures { λ r. ⌜ r ≤ most ⌝ }
+{
+    if x < (most as u64) { x as usize } else { most }
+}
+
+// A word read as a decimal number below 2^64.
+pub enum Number {
+    Is(u64),
+    No,
+}
+
+pub fn read_number(word: &[u8]) -> Number {
+    let mut x: u64 = 0;
+    let mut i: usize = 0;
+    while i < word.len() {
+        let b = word[i];
+        if b < 48 {
+            return Number::No;
+        }
+        if 57 < b {
+            return Number::No;
+        }
+        if 1844674407370955161 < x {
+            return Number::No;
+        }
+        let digit = (b - 48) as u64;
+        let tens = x * 10;
+        if 18446744073709551615 - tens < digit {
+            return Number::No;
+        }
+        x = tens + digit;
+        i += 1;
+    }
+    Number::Is(x)
+}
+
+// Whether each word was a number and there was a place for it, and how many there were.
+pub struct Numbers {
+    pub whole: bool,
+    pub count: usize,
+}
+
+// The words from `from` on, as numbers at the start of `out`.
+pub fn read_numbers(s: &[u8], from: usize, out: &mut [u64]) -> Numbers
+    requires { ⌜ from ≤ length (now s) ⌝ }
+    ensures { λ r. ⌜ r .count ≤ length (now (out .exit)) ⌝ }
+{
+    let mut count: usize = 0;
+    let mut at = skip_blanks(s, from);
+    while at < s.len() {
+        let end = find(s, at + 1, s.len(), 32);
+        let Number::Is(x) = read_number(&s[at..end]) else {
+            return Numbers {
+                whole: false,
+                count: 0,
+            };
+        };
+        if out.len() <= count {
+            return Numbers {
+                whole: false,
+                count: 0,
+            };
+        }
+        out[count] = x;
+        count += 1;
+        at = skip_blanks(s, end);
+    }
+    Numbers {
+        whole: true,
+        count: count,
+    }
+}

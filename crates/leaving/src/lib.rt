@@ -1,0 +1,252 @@
+// Document 01, "Windows", last part: what a report of a sound state does, and its refusal.
+use rules::Destination;
+use rules::Health;
+use rules::JobList;
+use rules::Outcome;
+use rules::ReportAnswer;
+use rules::ReportReply;
+use rules::Settings;
+use rules::State;
+ghost use mathlib.Core.Path.{_≡_};
+ghost use mathlib.Core.Bool.{true, false};
+ghost use mathlib.Core.List.{List};
+ghost use Prim.Native.Nat.{ℕ, _≤_, _<_};
+ghost use lib.ListN.{length, getD};
+ghost use Rattle.laws.specs.Range.{tableTo};
+ghost use Rattle.rules.specs.State.{at, isLive, zeroList, destinationOf};
+ghost use Rattle.rules.specs.Setup.{settingsInRange};
+ghost use Rattle.rules.specs.Sound.{sound};
+ghost use Rattle.rules.specs.Windows.{woken};
+ghost use Rattle.rules.specs.Reporting.{reporting};
+ghost use Rattle.rules.specs.Refusals.{reportRefusal};
+ghost use Rattle.rules.specs.Calls.{Reply, reportingReply};
+ghost use Rattle.rules.specs.Answers.{reportSays};
+ghost use Rattle.window.specs.Fits.{healthFits};
+ghost use Rattle.charging.specs.Links.{leadsInside};
+ghost use Rattle.leaving.specs.Columns.{stepped, staysAt, nearestOf, adoptedAt, CanPutOff, PutOff, CanReport};
+
+fn wide(x: u8) -> usize
+    ensures { λ r. ⌜ r ≡ x ⌝ }
+{
+    x as usize
+}
+
+// The destination after this outcome; busy still counts this delivery.
+fn step(g: Settings, busy: u64, now: u64, h: Health, outcome: Outcome) -> Health
+    requires { ⌜ (settingsInRange g ≡ true) × (healthFits g h ≡ true) × (busy ≤ 512) × (now ≤ 4294967295) ⌝ }
+    ensures { λ r. ⌜ r ≡ stepped g busy now h outcome ⌝ }
+{
+    match outcome {
+        Outcome::Success => window::after_success(g, busy, h),
+        Outcome::Failure => window::after_failure(g, now, h),
+    }
+}
+
+fn is_live(h: Health) -> bool
+    ensures { λ r. ⌜ r ≡ isLive h ⌝ }
+{
+    match h {
+        Health::Live(_) => true,
+        Health::Dead(_) => false,
+    }
+}
+
+// The waiting entries of a destination that died are put off: free, in the list with numbers rising, counted as dropped. Their number.
+fn put_off<'a>(
+    kind: &mut [u8; 512],
+    job: &'a [u8; 512],
+    destination: &'a [u8; 512],
+    dropped: &mut [u16; 32],
+    list: &mut [u16],
+    died: bool,
+    d: u8,
+) -> u16
+    requires { ⌜ CanPutOff (now kind) (now job) (now dropped) (now list) ⌝ }
+    ensures { λ r. ⌜ PutOff died d (now (kind .entry)) (now (job .entry)) (now (destination .entry)) (now (dropped .entry)) (now (list .entry)) (now (kind .exit)) (now (dropped .exit)) (now (list .exit)) r ⌝ }
+{
+    if !died {
+        return 0;
+    }
+    let mut m: usize = 0;
+    let mut i: usize = 0;
+    while i < 512 {
+        if (kind[i] == 1) & (destination[i] == d) {
+            let j = wide(job[i]);
+            dropped[j] += 1;
+            list[m] = i as u16;
+            kind[i] = 0;
+            m += 1;
+        }
+        i += 1;
+    }
+    m as u16
+}
+
+// Which of the present jobs have a waiting or busy entry.
+fn staying<'a>(kind: &[u8; 512], job: &'a [u8; 512], present: &[bool; 32]) -> [bool; 32]
+    ensures { λ r. ⌜ r ≡ tableTo (staysAt (now (kind .entry)) (now (job .entry)) (now (present .entry)) 512) 32 ⌝ }
+{
+    let mut stays = [false; 32];
+    let mut e: usize = 0;
+    while e < 512 {
+        if kind[e] != 0 {
+            let j = wide(job[e]);
+            if j < 32 {
+                stays[j] = present[j];
+            }
+        }
+        e += 1;
+    }
+    stays
+}
+
+// The link to the nearest job of a chain that stays, 0 for none. At most 32 steps.
+fn nearest(stays: &[bool; 32], parent: &[u8; 32], link: u8) -> u8
+    requires { ⌜ leadsInside (at (now parent)) 32 link ≡ true ⌝ }
+    ensures { λ r. ⌜ r ≡ nearestOf (now (stays .entry)) (now (parent .entry)) link ⌝ }
+{
+    let mut link = link;
+    let mut left: u8 = 32;
+    while 0 < left {
+        if link == 0 {
+            return 0;
+        }
+        let j = wide(link) - 1;
+        if stays[j] {
+            return link;
+        }
+        link = parent[j];
+        left -= 1;
+    }
+    0
+}
+
+// The parents after the others have left: "Its children pass to the nearest ancestor that stays, or to none".
+fn adopt(stays: &[bool; 32], parent: &[u8; 32]) -> [u8; 32]
+    requires { ⌜ ((j : ℕ) → j < 32 → getD (now stays) j false ≡ true → leadsInside (at (now parent)) 32 (at (now parent) j) ≡ true) ⌝ }
+    ensures { λ r. ⌜ r ≡ tableTo (adoptedAt (now (stays .entry)) (now (parent .entry))) 32 ⌝ }
+{
+    let mut next = [0u8; 32];
+    let mut j: usize = 0;
+    while j < 32 {
+        let mut link = parent[j];
+        if stays[j] {
+            link = nearest(stays, parent, link);
+        }
+        next[j] = link;
+        j += 1;
+    }
+    next
+}
+
+fn wide_ticket(x: u32) -> u64
+    ensures { λ r. ⌜ r ≡ x ⌝ }
+{
+    x as u64
+}
+
+// A transport's list.
+fn queue_of(queues: [JobList; 4], t: usize) -> JobList
+    requires { ⌜ t < 4 ⌝ }
+    ensures { λ r. ⌜ r ≡ getD queues t zeroList ⌝ }
+{
+    queues[t]
+}
+
+// The refusal of a report, 0 for none. The caller has tested the state.
+pub fn refusal(s: State, clock: u64, entry: u64, ticket: u64, places: usize) -> u8
+    requires { ⌜ sound s ≡ true ⌝ }
+    ensures { λ r. ⌜ ((list : List ℕ) → length list ≡ places → r ≡ reportRefusal s clock entry ticket list) ⌝ }
+{
+    let last = s.clock as u64;
+    if (clock < last) | (4294967295 < clock) {
+        return 3;
+    }
+    if 512 <= entry {
+        return 9; // there is no such entry
+    }
+    let e = entry as usize;
+    let es = s.entries;
+    if es.kind[e] != 2 {
+        return 9; // it is not busy
+    }
+    let issued = wide_ticket(es.ticket[e]);
+    if issued != ticket {
+        return 9; // it is busy with another
+    }
+    if places < 512 {
+        return 10;
+    }
+    0
+}
+
+// A report that was accepted.
+pub fn report(s: State, clock: u64, entry: u64, outcome: Outcome, list: &mut [u16]) -> ReportReply
+    requires { ⌜ CanReport s clock entry (length (now list)) ⌝ }
+    ensures { λ r. ⌜ _≡_ {A = Reply} (record { says = reportSays (r .answer); state = r .state; buffer = now (list .exit) })
+        (reportingReply (reporting (woken s clock) clock entry (destinationOf s entry) outcome) (now (list .entry))) ⌝ }
+{
+    let mut next = s;
+    next.clock = clock as u32;
+
+    // the destination's step
+    let setup = s.setup;
+    let old = s.destinations;
+    let mut ds = window::wake(old, setup, clock);
+    let e = entry as usize;
+    let mut es = s.entries;
+    let to = es.destination[e];
+    let d = to as usize;
+    let t = setup.home[d] as usize;
+    let g = setup.settings[t];
+    let x = ds[d];
+    let before = x.health;
+    let mut busy = s.busy;
+    let many = busy.destination[d] as u64;
+    let after = step(g, many, clock, before, outcome);
+    ds[d] = Destination { health: after };
+    next.destinations = ds;
+
+    // the entry is free, and those that wait are put off where the destination died
+    busy.transport[t] -= 1;
+    busy.destination[d] -= 1;
+    next.busy = busy;
+    let died = is_live(before) & !is_live(after);
+    let mut kind = es.kind;
+    let mut jobs = s.jobs;
+    let mut dropped = jobs.dropped;
+    let count = put_off(
+        &mut kind,
+        &es.job,
+        &es.destination,
+        &mut dropped,
+        list,
+        died,
+        to,
+    );
+    kind[e] = 0;
+
+    // those without an entry leave
+    let present = jobs.present;
+    let parent = jobs.parent;
+    let stays = staying(&kind, &es.job, &present);
+    jobs.dropped = dropped;
+    let adopted = adopt(&stays, &parent);
+    jobs.parent = adopted;
+    jobs.present = stays;
+    next.jobs = jobs;
+    es.kind = kind;
+    next.entries = es;
+    let mut queues = s.queues;
+    let q = queue_of(queues, t);
+    let queue = lists::keep(q, &stays);
+    queues[t] = queue;
+    next.queues = queues;
+    let a = s.arrivals;
+    let arrivals = lists::keep(a, &stays);
+    next.arrivals = arrivals;
+    ReportReply {
+        answer: ReportAnswer::Reported(count),
+        state: next,
+    }
+}
