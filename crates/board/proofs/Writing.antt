@@ -17,7 +17,7 @@ module _ {a e x : List ℕ} {r : ℕ} (w : Wrote a e x r) where
   front-is : take r x ≡ a
   front-is = rw (w .count, w .bytes) (take-at a (drop (length a) e) (length a) refl)
 
-  back-is : drop r x ≡ drop (length a) e
+  pub back-is : drop r x ≡ drop (length a) e
   back-is = rw (w .count, w .bytes) (drop-at a (drop (length a) e) (length a) refl)
 
   rest-is : midOf r (length x - r) x ≡ drop (length a) e
@@ -34,6 +34,14 @@ module _ {a e x : List ℕ} {r : ℕ} (w : Wrote a e x r) where
       record {
         count = simp length-append (omega (arith, w .count, v .count));
         bytes = rw (front-is, n, length-append, ← drop-drop, append-assoc);
+      }
+
+  -- a second text behind the first, by a writer that is lent a part of just that text's length
+  pub beside : (b : List ℕ) (k : ℕ) → k ≡ length b → Wrote (a ++ b) e (putMid r k x b) (r + length b)
+  beside b k h =
+      record {
+        count = simp length-append (omega (arith, w .count));
+        bytes = rw (front-is, back-is, h, length-append, ← drop-drop, append-assoc);
       }
 
   -- What lending the rest asks: that it starts within the buffer, that the second text has room there, and that its end is a number.

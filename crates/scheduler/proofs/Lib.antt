@@ -1,2 +1,7 @@
 pub mod CallLaws
+pub mod LayoutLaws
+pub mod KindLaws
+pub mod RowLaws
+pub mod RunLaws
 pub mod Transcript
+pub mod RunAll

@@ -29,7 +29,7 @@ replies-are s (x ∷ xs) (handed, kept, rest) =
     let given : x .gave ≡ replyTo s (x .call) = kept-is (x .call) (x .handed) (x .gave) kept ∙ ap (λ z. replyTo z (x .call)) handed in
     ap₂ _∷_ given (replies-are (x .gave .state) xs rest ∙ ap (λ r. repliesFrom (r .state) (callsOf xs)) given)
 
-start-is : (u : Setup) → setupInRange u ≡ true → setupReply u .state ≡ freshState u
+pub start-is : (u : Setup) → setupInRange u ≡ true → setupReply u .state ≡ freshState u
 unfolding setupReply setupRefusal unlessRefused if_then_else_
 start-is u h = rw h refl
 

@@ -1,7 +1,10 @@
 -- What a public call gave back, in the paper's numbers, beside what stands in its lent buffer: to be compared with the rules' reply.
 use Prim.Native.Nat.{ℕ}
+use mathlib.Core.Bool.{Bool, true, false}
 use mathlib.Core.List.{List, []}
 use Rattle.rules.specs.declared.State.{State}
+use Rattle.rules.specs.declared.SetupAnswer.{SetupAnswer}
+use Rattle.rules.specs.declared.SetupAnswer.the-variants
 use Rattle.rules.specs.declared.SetupReply.{SetupReply}
 use Rattle.rules.specs.declared.JobReply.{JobReply}
 use Rattle.rules.specs.declared.PickReply.{PickReply}
@@ -13,6 +16,11 @@ use Rattle.rules.specs.Answers.{setupSays, jobSays, pickSays, reportSays, askSa
 
 abbrev pub setupGave : SetupReply → Reply
 setupGave r = record { says = setupSays (r .answer); state = r .state; buffer = [] }
+
+-- an accepted set-up has no value to answer: that it is accepted is told by its case
+abbrev pub accepts : SetupAnswer → Bool
+accepts (SetupAnswer.Refused k) = false
+accepts SetupAnswer.Accepted = true
 
 abbrev pub jobGave : JobReply → List ℕ → Reply
 jobGave r list = record { says = jobSays (r .answer); state = r .state; buffer = list }

@@ -1,6 +1,8 @@
 // The six calls of the scheduler. Each takes any values whatever, tests them itself, and gives back what the rules of
 // document 01 give for them: `rules/specs/Calls.antt`. A refused call hands the state back as it came and writes to no
 // buffer.
+mod runs;
+
 use rules::AskAnswer;
 use rules::BoardAnswer;
 use rules::JobAnswer;
@@ -15,12 +17,14 @@ use rules::SetupAnswer;
 use rules::SetupReply;
 use rules::State;
 ghost use mathlib.Core.Path.{_≡_};
+ghost use Rattle.rules.specs.Setup.{setupInRange};
 ghost use Rattle.rules.specs.Calls.{setupReply, jobReply, pickReply, reportReply, askReply, boardReply};
-ghost use Rattle.scheduler.specs.Gave.{setupGave, jobGave, pickGave, reportGave, askGave, boardGave};
+ghost use Rattle.scheduler.specs.Gave.{setupGave, accepts, jobGave, pickGave, reportGave, askGave, boardGave};
+ghost use Rattle.scheduler.specs.Runs.{runGave, runReply, callsRead, Demand3OfRun};
 
 // The state of a set-up. A refused one gives the state of all zeros.
 pub fn set_up(u: Setup) -> SetupReply
-    ensures { λ r. ⌜ setupGave r ≡ setupReply u ⌝ }
+    ensures { λ r. ⌜ (setupGave r ≡ setupReply u) × (accepts (r .answer) ≡ setupInRange u) ⌝ }
 {
     if !startup::in_range(u) {
         return SetupReply {
@@ -141,4 +145,45 @@ pub fn report(
         };
     }
     leaving::report(s, now, entry, outcome, list)
+}
+
+// Why a run ended: the set-up was refused, the list of calls came to its end, it is cut short within a call, a kind of
+// call is unknown, or a slice has no room for the next answer or its buffer.
+pub enum RunEnd {
+    Refused,
+    Whole,
+    Short,
+    Unknown,
+    NoRoom,
+}
+
+pub struct RunAnswer {
+    pub calls: u64,
+    pub end: RunEnd,
+}
+
+// Runs a list of calls from a set-up, the six functions above one after another, each with the state that the one
+// before left. Each answer goes to the next six places of `answers`; each put-off list is lent as the next part of
+// `lists`, each board's buffer as the next part of `texts`: docs/RUN.md. A refused set-up runs nothing. The contract
+// has demand 3 in it.
+pub fn run(
+    u: Setup,
+    calls: &[u64],
+    answers: &mut [u64],
+    lists: &mut [u16],
+    texts: &mut [u8],
+) -> RunAnswer
+    ensures { λ r. ⌜ (runGave r (answers .exit .now) (lists .exit .now) (texts .exit .now)
+        ≡ runReply u (calls .entry .now) (answers .entry .now) (lists .entry .now) (texts .entry .now))
+        × Demand3OfRun u (callsRead (calls .entry .now) (answers .entry .now) (lists .entry .now) (texts .entry .now) .calls) ⌝ }
+{
+    let r = set_up(u);
+    let a = r.answer;
+    match a {
+        SetupAnswer::Refused(k) => RunAnswer {
+            calls: 0,
+            end: RunEnd::Refused,
+        },
+        SetupAnswer::Accepted => runs::run_from(r.state, calls, answers, lists, texts),
+    }
 }
