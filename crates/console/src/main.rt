@@ -1,12 +1,11 @@
 // One call a line in, one answer a line out. Each answer is written before the next line is waited for.
-mod answer;
-mod calls;
-mod text;
-
 ghost use mathlib.Core.Path.{_≡_};
 ghost use Prim.Native.Nat.{_+_, _≤_, _<_};
 ghost use lib.ListN.{length};
 use libc::STDIN_FILENO;
+use lines::answer;
+use lines::calls;
+use lines::text;
 use rules::State;
 
 fn main() {
@@ -65,11 +64,20 @@ struct Held {
 
 // Answers a line, or the end of one that was too long, and hands on the state that the call left.
 fn answered(line: &[u8], words: &mut [u64], mode: u8, s: State) -> State {
+    let mut list_space = [0u16; 512];
+    let list: &mut [u16] = &mut list_space;
+    let mut text_space = [0u8; 4096];
+    let written: &mut [u8] = &mut text_space;
+    let mut out_space = [0u8; 8192];
+    let out: &mut [u8] = &mut out_space;
     if mode == 0 {
-        return calls::answer_line(line, words, s);
+        let r = calls::answer_line(line, words, list, written, out, s);
+        answer::write(out, r.length);
+        return r.state;
     }
     if mode == 1 {
-        answer::malformed();
+        let n = answer::malformed(out);
+        answer::write(out, n);
     }
     s
 }

@@ -1,0 +1,4 @@
+// A call as a line of text, and its answer as one: a word, then decimal numbers, parted by blanks.
+pub mod answer;
+pub mod calls;
+pub mod text;
