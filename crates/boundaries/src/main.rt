@@ -1,0 +1,297 @@
+// Runs the cases of its standard input, a line each, and writes each line with what came out of it. The lines:
+//
+//     setup, job, pick, report, ask, board    a call, as the console reads it. A job's destinations are repeated until
+//                                             they are as many as its count says. Each place of the lent list holds
+//                                             999 before a call, and each byte of the lent text a '.'
+//     N CALL                                  the call N times; the answer is the last one's
+//     list A B                                the lent list after the last call, from A up to before B
+//     text A B                                the lent text
+//     sequence NOW N                          N deliveries, each picked and then reported as a success: their jobs,
+//                                             counted from 1
+//     keep                                    keeps the state
+//     back                                    goes back to the kept state
+//     set FIELD ..                            changes a field of the state (change.rt)
+//     broken FIELD ..                         changes a field of a copy, and asks about its job 0
+//     range FIELD ..                          changes a field of the set-up, and sets up with it; the state stays
+//
+// Empty lines and lines that begin with '#' are written as they are.
+mod change;
+mod lent;
+
+ghost use Prim.Native.Nat.{_≤_};
+ghost use lib.ListN.{length};
+use libc::STDIN_FILENO;
+use libc::STDOUT_FILENO;
+use lines::answer;
+use lines::calls;
+use lines::calls::Reply;
+use lines::text;
+use lines::text::Number;
+use rules::Outcome;
+use rules::PickAnswer;
+use rules::State;
+
+// The state, and the one that was kept.
+struct Desk {
+    state: State,
+    kept: State,
+}
+
+fn main() {
+    let mut cases_space = [0u8; 65536];
+    let cases: &mut [u8] = &mut cases_space;
+    let mut words_space = [0u64; 512];
+    let words: &mut [u64] = &mut words_space;
+    let mut list_space = [0u16; 512];
+    let list: &mut [u16] = &mut list_space;
+    let mut text_space = [0u8; 4096];
+    let written: &mut [u8] = &mut text_space;
+    let mut out_space = [0u8; 8192];
+    let out: &mut [u8] = &mut out_space;
+    run(cases, words, list, written, out);
+}
+
+fn run(cases: &mut [u8], words: &mut [u64], list: &mut [u16], written: &mut [u8], out: &mut [u8]) {
+    let n = io::read_full(STDIN_FILENO, cases);
+    let zeros = calls::no_state();
+    let mut desk = Desk {
+        state: zeros,
+        kept: zeros,
+    };
+    let mut at: usize = 0;
+    while at < n {
+        let start = at;
+        let end = text::find(cases, start, n, 10);
+        at = end + 1;
+        desk = step(&cases[start..end], words, list, written, out, desk);
+    }
+}
+
+// Writes a line, does what it says, and writes what came out.
+fn step(
+    line: &[u8],
+    words: &mut [u64],
+    list: &mut [u16],
+    written: &mut [u8],
+    out: &mut [u8],
+    desk: Desk,
+) -> Desk {
+    io::write_all(STDOUT_FILENO, line);
+    let s = desk.state;
+    let kept = desk.kept;
+    if text::same(line, b"keep") {
+        write_answer(out, 0);
+        return Desk { state: s, kept: s };
+    }
+    if text::same(line, b"back") {
+        write_answer(out, 0);
+        return Desk {
+            state: kept,
+            kept: kept,
+        };
+    }
+    let r = case(line, words, list, written, out, s);
+    write_answer(out, r.length);
+    let next = r.state;
+    Desk {
+        state: next,
+        kept: kept,
+    }
+}
+
+// An answer of n bytes, its line end among them; a line end where there is none.
+fn write_answer(out: &[u8], n: usize) {
+    if n == 0 {
+        io::write_all(STDOUT_FILENO, b"\n");
+        return;
+    }
+    io::write_all(STDOUT_FILENO, b" -> ");
+    answer::write(out, n);
+}
+
+fn case(
+    line: &[u8],
+    words: &mut [u64],
+    list: &mut [u16],
+    written: &mut [u8],
+    out: &mut [u8],
+    s: State,
+) -> Reply {
+    if line.len() == 0 {
+        return calls::left(s, 0);
+    }
+    if line[0] == 35 {
+        return calls::left(s, 0);
+    }
+    let n = line.len();
+    let end = text::find(line, 0, n, 32);
+    let Number::Is(count) = text::read_number(&line[..end]) else {
+        return once(line, words, list, written, out, s);
+    };
+    let start = text::skip_blanks(line, end);
+    times(count, &line[start..], words, list, written, out, s)
+}
+
+fn times(
+    count: u64,
+    line: &[u8],
+    words: &mut [u64],
+    list: &mut [u16],
+    written: &mut [u8],
+    out: &mut [u8],
+    s: State,
+) -> Reply {
+    let mut r = calls::left(s, 0);
+    let mut left = count;
+    while 0 < left {
+        r = once(line, words, list, written, out, r.state);
+        left -= 1;
+    }
+    r
+}
+
+fn once(
+    line: &[u8],
+    words: &mut [u64],
+    list: &mut [u16],
+    written: &mut [u8],
+    out: &mut [u8],
+    s: State,
+) -> Reply {
+    let n = line.len();
+    let end = text::find(line, 0, n, 32);
+    let kind = change_kind(&line[..end]);
+    if kind != 0 {
+        return changing(kind, &line[end..], words, out, s);
+    }
+    let got = text::read_numbers(line, end, words);
+    let k = got.count;
+    if !got.whole {
+        let m = answer::malformed(out);
+        return calls::left(s, m);
+    }
+    if k == 2 {
+        let a = calls::word(words, 0);
+        let b = calls::word(words, 1);
+        return looking(&line[..end], a, b, list, written, out, s);
+    }
+    calling(&line[..end], k, words, list, written, out, s)
+}
+
+// The lines of two numbers.
+fn looking(
+    name: &[u8],
+    a: u64,
+    b: u64,
+    list: &mut [u16],
+    written: &[u8],
+    out: &mut [u8],
+    s: State,
+) -> Reply {
+    if text::same(name, b"list") {
+        let n = lent::put_places(out, list, a, b);
+        return calls::left(s, n);
+    }
+    if text::same(name, b"text") {
+        let n = lent::put_bytes(out, written, a, b);
+        return calls::left(s, n);
+    }
+    if text::same(name, b"sequence") {
+        return sequence(a, b, list, out, s);
+    }
+    let n = answer::malformed(out);
+    calls::left(s, n)
+}
+
+// One of the six calls, with the first k words.
+fn calling(
+    name: &[u8],
+    k: usize,
+    words: &mut [u64],
+    list: &mut [u16],
+    written: &mut [u8],
+    out: &mut [u8],
+    s: State,
+) -> Reply
+    requires { ⌜ k ≤ length (now words) ⌝ }
+{
+    let m = lent::spread(name, words, k);
+    lent::fill(list, written);
+    calls::call(name, &words[..m], list, written, out, s)
+}
+
+// 1 for set, 2 for broken, 3 for range, 0 for any other name.
+fn change_kind(name: &[u8]) -> u8 {
+    if text::same(name, b"set") {
+        return 1;
+    }
+    if text::same(name, b"broken") {
+        return 2;
+    }
+    if text::same(name, b"range") {
+        return 3;
+    }
+    0
+}
+
+// What stands behind the name: a field and its numbers.
+fn changing(kind: u8, rest: &[u8], words: &mut [u64], out: &mut [u8], s: State) -> Reply {
+    let n = rest.len();
+    let from = text::skip_blanks(rest, 0);
+    let to = text::find(rest, from, n, 32);
+    let got = text::read_numbers(rest, to, words);
+    let k = got.count;
+    if !got.whole {
+        let m = answer::malformed(out);
+        return calls::left(s, m);
+    }
+    let next = change::changed(&rest[from..to], &words[..k], s);
+    after_change(kind, out, s, next)
+}
+
+fn after_change(kind: u8, out: &mut [u8], s: State, next: State) -> Reply {
+    if kind == 1 {
+        return calls::left(next, 0);
+    }
+    if kind == 2 {
+        let a = scheduler::ask(next, 0);
+        let n = answer::ask(out, a);
+        return calls::left(s, n);
+    }
+    let r = calls::start(next.setup, out);
+    calls::left(s, r.length)
+}
+
+// Stops early where nothing is picked.
+fn sequence(now: u64, count: u64, list: &mut [u16], out: &mut [u8], s: State) -> Reply {
+    let mut left = count;
+    let mut at: usize = 0;
+    let mut state = s;
+    while 0 < left {
+        let r = scheduler::pick(state, now);
+        let a = r.answer;
+        state = r.state;
+        let PickAnswer::Picked {
+            job,
+            entry,
+            ticket,
+            passed,
+        } = a
+        else {
+            break;
+        };
+        at = answer::put_decimal(out, at, (job as u64) + 1);
+        let reported = scheduler::report(
+            state,
+            now,
+            entry as u64,
+            ticket as u64,
+            Outcome::Success,
+            list,
+        );
+        state = reported.state;
+        left -= 1;
+    }
+    let n = answer::put_byte(out, at, 10);
+    calls::left(state, n)
+}
