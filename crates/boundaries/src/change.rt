@@ -27,6 +27,45 @@ use rules::Setup;
 use rules::State;
 use rules::Sums;
 
+pub fn is_field(field: &[u8]) -> bool {
+    if is_among(
+        field,
+        b"clock ticket turn transports destinations home live dead busytransport busydestination",
+    ) {
+        return true;
+    }
+    if is_among(
+        field,
+        b"agents cost loan discount minimum limit initial positive positiveform negative negativeform",
+    ) {
+        return true;
+    }
+    if is_among(
+        field,
+        b"cohortlimit suspension queue queuecount arrivals arrivalscount kind job destination stamp",
+    ) {
+        return true;
+    }
+    is_among(
+        field,
+        b"present transport n picked dropped sold parent preempted arrival overtakers jobturn places order",
+    )
+}
+
+// Whether it is one of the names, which are parted by blanks.
+fn is_among(word: &[u8], names: &[u8]) -> bool {
+    let mut at: usize = 0;
+    while at < names.len() {
+        let start = at;
+        let end = text::find(names, start, names.len(), 32);
+        at = end + 1;
+        if text::same(word, &names[start..end]) {
+            return true;
+        }
+    }
+    false
+}
+
 pub fn changed(field: &[u8], w: &[u64], s: State) -> State {
     let x = word(w, 0);
     let u = setup_changed(field, w, s.setup);

@@ -245,6 +245,10 @@ fn changing(kind: u8, rest: &[u8], words: &mut [u64], out: &mut [u8], s: State) 
         let m = answer::malformed(out);
         return calls::left(s, m);
     }
+    if !change::is_field(&rest[from..to]) {
+        let m = answer::malformed(out);
+        return calls::left(s, m);
+    }
     let next = change::changed(&rest[from..to], &words[..k], s);
     after_change(kind, out, s, next)
 }

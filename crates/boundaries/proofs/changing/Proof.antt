@@ -30,6 +30,33 @@ same-length-2 c = search needs
 returns : tie.Need-returns
 returns c = search needs
 
+sub-is-field : tie.Need-sub-is-field
+sub-is-field c = search needs
+
+part-is-field-start : tie.Need-part-is-field-start
+part-is-field-start c = search needs
+
+part-is-field-end : tie.Need-part-is-field-end
+part-is-field-end c = search needs
+
+is-field-requires : tie.Need-is-field-requires
+is-field-requires c κs = search needs
+
+malformed-requires-2 : tie.Need-malformed-requires-2
+malformed-requires-2 c κs = search needs
+
+left-requires-2 : tie.Need-left-requires-2
+left-requires-2 c κs = search needs
+
+same-length-3 : tie.Need-same-length-3
+same-length-3 c = search needs
+
+same-length-4 : tie.Need-same-length-4
+same-length-4 c = search needs
+
+returns-2 : tie.Need-returns-2
+returns-2 c = search needs
+
 sub-changed : tie.Need-sub-changed
 sub-changed c = search needs
 
@@ -51,14 +78,14 @@ changed-requires c κs = search needs
 after-change-requires : tie.Need-after-change-requires
 after-change-requires c κs = search needs
 
-same-length-3 : tie.Need-same-length-3
-same-length-3 c = search needs
+same-length-5 : tie.Need-same-length-5
+same-length-5 c = search needs
 
-same-length-4 : tie.Need-same-length-4
-same-length-4 c = search needs
+same-length-6 : tie.Need-same-length-6
+same-length-6 c = search needs
 
-returns-2 : tie.Need-returns-2
-returns-2 c = search needs
+returns-3 : tie.Need-returns-3
+returns-3 c = search needs
 
 pub changing-spec : {M : Type 1} → statement M
 changing-spec =
@@ -72,6 +99,15 @@ changing-spec =
     same-length
     same-length-2
     returns
+    sub-is-field
+    part-is-field-start
+    part-is-field-end
+    is-field-requires
+    malformed-requires-2
+    left-requires-2
+    same-length-3
+    same-length-4
+    returns-2
     sub-changed
     part-changed-start
     part-changed-end
@@ -79,6 +115,6 @@ changing-spec =
     slice-aggregate-changed
     changed-requires
     after-change-requires
-    same-length-3
-    same-length-4
-    returns-2)
+    same-length-5
+    same-length-6
+    returns-3)
