@@ -159,7 +159,7 @@ pub fn wide(x: u16) -> u64 {
     x as u64
 }
 
-fn put_text(out: &mut [u8], at: usize, n: u64, written: &[u8]) -> usize {
+pub fn put_text(out: &mut [u8], at: usize, n: u64, written: &[u8]) -> usize {
     let count = text::at_most(n, written.len());
     let mut p = at;
     let mut i: usize = 0;

@@ -175,18 +175,23 @@ fn set_up(words: &[u64], out: &mut [u8], s: State) -> Reply {
     if d != (k as u64) - at - 1 {
         return malformed(out, s);
     }
+    start(setup_of(words), out)
+}
+
+// The set-up of these numbers: what is not there counts as 0, and what would be too far behind for a line as not there.
+pub fn setup_of(words: &[u64]) -> Setup {
+    let t = word(words, 0);
+    let at = 1 + 13 * text::at_most(t, 2520);
     let a = settings(words, t, 0);
     let b = settings(words, t, 1);
     let c = settings(words, t, 2);
     let e = settings(words, t, 3);
-    let home = homes(words, (at + 1) as u32);
-    let u = Setup {
+    Setup {
         transports: t,
         settings: [a, b, c, e],
-        destinations: d,
-        home: home,
-    };
-    start(u, out)
+        destinations: word(words, at),
+        home: homes(words, (at + 1) as u32),
+    }
 }
 
 // The set-up itself.

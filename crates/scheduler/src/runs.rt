@@ -118,20 +118,20 @@ fn make_job(s: State, words: &[u64], row: &mut [u64], list: &mut [u16]) -> State
     ensures { λ r. ⌜ Made (jobReply s (word (words .entry .now) 1) (word (words .entry .now) 2) (take (word (words .entry .now) 4) (drop 5 (words .entry .now))) (list .entry .now)) r (row .exit .now) (list .exit .now) ⌝ }
 {
     let end = 5 + (words[4] as usize);
-    let r = crate::take_job(s, words[1], words[2], &words[5..end], list);
-    let a = r.answer;
+    let taken = crate::take_job(s, words[1], words[2], &words[5..end], list);
+    let a = taken.answer;
     put_job(row, a);
-    r.state
+    taken.state
 }
 
 fn make_pick(s: State, now: u64, row: &mut [u64]) -> State
     requires { ⌜ length (row .now) ≡ 6 ⌝ }
     ensures { λ r. ⌜ Made (pickReply s now) r (row .exit .now) [] ⌝ }
 {
-    let r = crate::pick(s, now);
-    let a = r.answer;
+    let picked = crate::pick(s, now);
+    let a = picked.answer;
     put_pick(row, a);
-    r.state
+    picked.state
 }
 
 fn make_report(
@@ -144,10 +144,10 @@ fn make_report(
     requires { ⌜ (length (row .now) ≡ 6) × (5 ≤ length (words .now)) ⌝ }
     ensures { λ r. ⌜ Made (reportReply s (word (words .entry .now) 1) (word (words .entry .now) 2) (word (words .entry .now) 3) outcome (list .entry .now)) r (row .exit .now) (list .exit .now) ⌝ }
 {
-    let r = crate::report(s, words[1], words[2], words[3], outcome, list);
-    let a = r.answer;
+    let reported = crate::report(s, words[1], words[2], words[3], outcome, list);
+    let a = reported.answer;
     put_report(row, a);
-    r.state
+    reported.state
 }
 
 fn make_ask(s: State, job: u64, row: &mut [u64])

@@ -1,0 +1,97 @@
+use Prim.Native.Nat.{_-_, _≤_}
+use mathlib.Core.Path.{_≡_}
+use lib.ListN.{length}
+use borrow.Author.Needs.{needs}
+use Rattle.runs.proofs.read_lines.Statement.{statement}
+use Rattle.runs.proofs.read_lines.Tie as tie
+use Rattle.runs.proofs.read_lines.Reads as reads
+use Rattle.runs.proofs.read_lines.Lts as lts
+use Rattle.io.proofs.read_full.Reads as read-full-reads
+use Rattle.lines.proofs.calls.setup_of.Reads as setup-of-reads
+use Rattle.lines.proofs.text.find.Reads as find-reads
+use Rattle.runs.proofs.step.Reads as step-reads
+
+abbrev Inv-loop : tie.InvT-loop
+Inv-loop input words₀ list₀ out₀ n desk₀ at₀ words list out desk at = (length words ≡ length words₀) × (length list ≡ length list₀) × (length out ≡ length out₀) × (n ≤ length input)
+
+abbrev μ-loop : tie.MeasureT-loop
+μ-loop input words₀ list₀ out₀ n desk₀ at₀ words list out desk at = n - at
+
+read-full-requires : tie.Need-read-full-requires Inv-loop μ-loop
+read-full-requires c κs = search needs
+
+slice-reshare-prefix-setup-of : tie.Need-slice-reshare-prefix-setup-of Inv-loop μ-loop
+slice-reshare-prefix-setup-of c = search needs
+
+slice-aggregate-setup-of : tie.Need-slice-aggregate-setup-of Inv-loop μ-loop
+slice-aggregate-setup-of c = search needs
+
+setup-of-requires : tie.Need-setup-of-requires Inv-loop μ-loop
+setup-of-requires c κs = search needs
+
+loop-holds : tie.Need-loop-holds Inv-loop μ-loop
+loop-holds c = search needs
+
+find-requires : tie.Need-find-requires Inv-loop μ-loop
+find-requires c κs = search needs
+
+add-at : tie.Need-add-at Inv-loop μ-loop
+add-at c = search needs
+
+sub-step : tie.Need-sub-step Inv-loop μ-loop
+sub-step c = search needs
+
+part-step-start : tie.Need-part-step-start Inv-loop μ-loop
+part-step-start c = search needs
+
+part-step-end : tie.Need-part-step-end Inv-loop μ-loop
+part-step-end c = search needs
+
+step-requires : tie.Need-step-requires Inv-loop μ-loop
+step-requires c κs = search needs
+
+loop-less : tie.Need-loop-less Inv-loop μ-loop
+loop-less c = search needs
+
+loop-again : tie.Need-loop-again Inv-loop μ-loop
+loop-again c = search needs
+
+same-length : tie.Need-same-length Inv-loop μ-loop
+same-length c = search needs
+
+same-length-2 : tie.Need-same-length-2 Inv-loop μ-loop
+same-length-2 c = search needs
+
+same-length-3 : tie.Need-same-length-3 Inv-loop μ-loop
+same-length-3 c = search needs
+
+same-length-4 : tie.Need-same-length-4 Inv-loop μ-loop
+same-length-4 c = search needs
+
+returns : tie.Need-returns Inv-loop μ-loop
+returns c = search needs
+
+pub read-lines-spec : {M : Type 1} → statement M
+read-lines-spec =
+    tie.close
+    (tie.spec
+    Inv-loop
+    μ-loop
+    read-full-requires
+    slice-reshare-prefix-setup-of
+    slice-aggregate-setup-of
+    setup-of-requires
+    loop-holds
+    find-requires
+    add-at
+    sub-step
+    part-step-start
+    part-step-end
+    step-requires
+    loop-less
+    loop-again
+    same-length
+    same-length-2
+    same-length-3
+    same-length-4
+    returns)
