@@ -1,14 +1,13 @@
 -- What a candidate is, and which of them is the best.
 use Prim.Native.Nat.{ℕ, zero, suc, _+_, _-_, _*_, _≤_, _<_}
-use mathlib.Core.Bool.{true, false, not, _&&_}
+use mathlib.Core.Bool.{true, false, _&&_}
 use mathlib.Core.Path.{_≡_, refl, sym, _∙_, ap, subst}
 use mathlib.Core.Logic.{_≢_, ⊎-elim}
 use native.Mathlib.Nat.{lt-suc-self, le-step, le-of-lt, le-refl, not-suc-le-zero, eq-or-lt-of-le}
 use native.Mathlib.Decide.{decLt}
 use native.Mathlib.Omega.{arith}
 use lib.ListN.{length}
-use lib.Dec.{eqb}
-use borrow.Author.Tests.{eqb-true, eqb-false, ltb-true, ltb-false, lt-ltb, le-ltb, not-true}
+use borrow.Author.Tests.{eqb-true, eqb-false, leb-true, ltb-true, ltb-false, lt-ltb, le-ltb, not-true}
 use Rattle.laws.proofs.Choice.{true-not-false, if-cases, and-left, and-right, and-false-cases}
 use Rattle.laws.proofs.All.{below-suc}
 use Rattle.laws.specs.Sequence.{holds}
@@ -16,9 +15,9 @@ use Rattle.laws.proofs.Sequence.{holds-place}
 use Rattle.laws.proofs.Table.{fold-keeps}
 use Rattle.laws.proofs.Tests.{and-6, fraction-less}
 use Rattle.rules.specs.declared.State.{State}
-use Rattle.rules.specs.State.{at, settingsOf, listOf, hasPreempted, waitingOf}
+use Rattle.rules.specs.State.{at, listOf, hasPreempted, waitingOf}
 use Rattle.rules.specs.Picking.{hasEligible}
-use Rattle.rules.specs.Preemption.{creditOf, owned, affordable, isCandidate, beats, better, bestCandidate}
+use Rattle.rules.specs.Preemption.{canPayFor, isCandidate, beats, better, bestCandidate}
 use Rattle.rules.proofs.EntryFacts.{has-eligible-waits}
 
 pub record Candidate (s : State) (t y x : ℕ) : Type 0 where
@@ -27,20 +26,17 @@ pub record Candidate (s : State) (t y x : ℕ) : Type 0 where
   pub unpicked : at (s .jobs .picked) x ≡ 0
   pub unmarked : hasPreempted s x ≡ false
   pub eligible : hasEligible s x ≡ true
-  pub affordable : affordable (settingsOf s t .cost) (waitingOf s y) (owned (creditOf s t y)) (waitingOf s x) ≡ true
+  pub affordable : canPayFor s t y x ≡ true
 
 pub candidate-facts : (s : State) (t y x : ℕ) → isCandidate s t y x ≡ true → Candidate s t y x
 unfolding isCandidate
 candidate-facts s t y x h =
-    let r =
-    and-6 (not (eqb x y)) (eqb (at (s .jobs .transport) x) t) (eqb (at (s .jobs .picked) x) 0) (not (hasPreempted s x)) (hasEligible s x)
-    (affordable (settingsOf s t .cost) (waitingOf s y) (owned (creditOf s t y)) (waitingOf s x)) h
-    in
+    let r = and-6 _ _ _ _ _ _ h in
     record {
-      other = eqb-false x y (not-true (eqb x y) (r .0));
-      transport = eqb-true (at (s .jobs .transport) x) t (r .1);
-      unpicked = eqb-true (at (s .jobs .picked) x) 0 (r .2);
-      unmarked = not-true (hasPreempted s x) (r .3);
+      other = eqb-false x y (not-true _ (r .0));
+      transport = omega (arith, eqb-true);
+      unpicked = omega (arith, eqb-true, leb-true);
+      unmarked = not-true _ (r .3);
       eligible = r .4;
       affordable = r .5;
     }

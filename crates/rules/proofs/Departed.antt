@@ -10,7 +10,6 @@ use lib.Seq.{getD-set-same, getD-set-other}
 use lib.Dec.{eqb}
 use borrow.Author.Tests.{eqb-true}
 use Rattle.laws.specs.Range.{anyTo, tableTo}
-use Rattle.laws.specs.Chain.{firstAlong}
 use Rattle.laws.specs.Sequence.{keep}
 use Rattle.laws.proofs.Choice.{true-not-false, false-of, bool-same, and-both, and-left, and-right, and-left-false, if-true, if-false}
 use Rattle.laws.proofs.All.{any-of}
@@ -24,7 +23,7 @@ use Rattle.rules.specs.Sizes.{maxTransports, maxJobs, maxEntries}
 use Rattle.rules.specs.State.{at, zeroList, listOf, listed, queueOf, isPresent, usedOf, waitsOf, waitingOf, parentOf}
 use Rattle.rules.specs.Sound.{isJobOn}
 use Rattle.rules.specs.SoundFacts.{QueueSound, ArrivalsSound}
-use Rattle.rules.specs.Reporting.{stays, parentAfter, departed}
+use Rattle.rules.specs.Reporting.{stays, nearestStaying, parentAfter, departed}
 use Rattle.rules.proofs.Shape.{Shaped}
 use Rattle.rules.proofs.EntryTests.{waits-used}
 use Rattle.rules.proofs.Taken.{present-below}
@@ -70,15 +69,15 @@ module _ (s : State) (t : ℕ) (shaped : Shaped s) where
   unfolding departed
   departed-parent j l = getD-table (parentAfter s) maxJobs j 0 l
 
-  pub departed-parent-stays : (j : ℕ) → stays s j ≡ true → parentOf (departed s t) j ≡ firstAlong (stays s) (parentOf s) maxJobs (parentOf s j)
+  pub departed-parent-stays : (j : ℕ) → stays s j ≡ true → parentOf (departed s t) j ≡ nearestStaying s j
   unfolding parentAfter
   departed-parent-stays j h =
       departed-parent j (present-below s shaped j (stays-present s j h))
-      ∙ if-true (firstAlong (stays s) (parentOf s) maxJobs (parentOf s j)) (parentOf s j) h
+      ∙ if-true (nearestStaying s j) (parentOf s j) h
 
   pub departed-parent-leaves : (j : ℕ) → j < maxJobs → stays s j ≡ false → parentOf (departed s t) j ≡ parentOf s j
   unfolding parentAfter
-  departed-parent-leaves j l f = departed-parent j l ∙ if-false (firstAlong (stays s) (parentOf s) maxJobs (parentOf s j)) (parentOf s j) f
+  departed-parent-leaves j l f = departed-parent j l ∙ if-false (nearestStaying s j) (parentOf s j) f
 
   pub departed-arrivals : listOf ((departed s t) .arrivals) ≡ keep (stays s) (listOf (s .arrivals))
   unfolding departed

@@ -3,7 +3,6 @@ use Prim.Native.Nat.{ℕ, suc, _≤_, _<_}
 use mathlib.Core.Path.{_≡_, refl, sym, _∙_, ap, subst}
 use mathlib.Core.Logic.{_≢_}
 use mathlib.Core.Bool.{true, false}
-use native.Mathlib.Nat.{le-refl}
 use native.Mathlib.Omega.{arith}
 use native.Mathlib.Decide.{ℕ-discrete}
 use lib.ListN.{length, getD, length-set}
@@ -24,7 +23,7 @@ use Rattle.rules.specs.State.{at, zeroList, listOf, listed, queueOf, isF
 use Rattle.rules.specs.State.{parentOf}
 use Rattle.rules.specs.Sound.{busyOn, busyTo, isJobOn, orderOf}
 use Rattle.rules.specs.SoundFacts.{EntrySound, QueueSound, ArrivalsSound, ChildOf, JobSound, DestinationSound, Sound}
-use Rattle.rules.specs.Reporting.{stays, parentAfter, departed}
+use Rattle.rules.specs.Reporting.{stays, nearestStaying, parentAfter, departed}
 use Rattle.rules.proofs.Shape.{Shaped, JobsShaped}
 use Rattle.rules.proofs.EntryTests.{used-of}
 use Rattle.rules.proofs.Taken.{present-below}
@@ -139,18 +138,18 @@ module _ (s : State) (t : ℕ) (shaped : Shaped s) (almost : AlmostSound s) (ins
       let c = almost .jobs x (present-below s shaped x (a .0)) (a .0) .parent y e in
       (c .present, c .transport ∙ a .1, c .picked)
 
-  first-up : (j : ℕ) → JobAlmost s j → (p : ℕ) → firstAlong (stays s) (parentOf s) maxJobs (parentOf s j) ≡ suc p
+  first-up : (j : ℕ) → JobAlmost s j → (p : ℕ) → nearestStaying s j ≡ suc p
       → Ancestor (at (s .jobs .transport) j) p × (stays s p ≡ true)
   unfolding Ancestor
   first-up j h =
-      first-along-ok (stays s) (parentOf s) (Ancestor (at (s .jobs .transport) j)) (up (at (s .jobs .transport) j)) maxJobs (parentOf s j)
+      first-along-ok (stays s) (parentOf s) (Ancestor (at (s .jobs .transport) j)) (up (at (s .jobs .transport) j)) _ (parentOf s j)
       λ x e. let c = h .parent x e in (c .present, c .transport, c .picked)
 
-  had-parent : (j : ℕ) → JobAlmost s j → (p : ℕ) → firstAlong (stays s) (parentOf s) maxJobs (parentOf s j) ≡ suc p → hasPreempted s j ≡ true
-  had-parent j h p =
-      link-cases (λ k. (parentOf s j ≡ k → firstAlong (stays s) (parentOf s) maxJobs k ≡ suc p → hasPreempted s j ≡ true)) (parentOf s j)
-      (λ q e. let z = first-along-zero (stays s) (parentOf s) maxJobs in absurd (omega arith))
-      (λ x k q e. h .parent x q .marked)
+  had-parent : (j : ℕ) → JobAlmost s j → (p : ℕ) → nearestStaying s j ≡ suc p → hasPreempted s j ≡ true
+  had-parent j h p e =
+      link-cases (λ k. (parentOf s j ≡ k → hasPreempted s j ≡ true)) (parentOf s j)
+      (λ q. let z : nearestStaying s j ≡ 0 = ap (firstAlong (stays s) (parentOf s) _) q ∙ first-along-zero (stays s) (parentOf s) _ in absurd (omega arith))
+      (λ x k q. h .parent x q .marked)
       refl
 
   child-departed : (j : ℕ) → stays s j ≡ true → JobAlmost s j → (p : ℕ) → parentOf (departed s t) j ≡ suc p → ChildOf (departed s t) j p
@@ -163,7 +162,7 @@ module _ (s : State) (t : ℕ) (shaped : Shaped s) (almost : AlmostSound s) (ins
   ends-departed : (j : ℕ) → stays s j ≡ true → JobAlmost s j → endsIn (parentOf (departed s t)) 32 (parentOf (departed s t) j) ≡ true
   ends-departed j k h =
       rw (departed-parent-stays s t shaped j k)
-      (ends-first (stays s) (parentOf s) (parentOf (departed s t)) 32 (departed-parent-stays s t shaped) 32 32 (parentOf s j) (le-refl 32) (le-refl 32) (h .ends))
+      (ends-first (stays s) (parentOf s) (parentOf (departed s t)) _ (departed-parent-stays s t shaped) 32 _ (parentOf s j) (h .ends))
 
   -- Jobs.
 

@@ -4,7 +4,7 @@ use mathlib.Core.Bool.{true, false}
 use mathlib.Core.Path.{_≡_, sym, _∙_, ap, subst}
 use mathlib.Core.Logic.{_≢_}
 use mathlib.Core.List.{List}
-use native.Mathlib.Nat.{suc-inj}
+use native.Mathlib.Nat.{suc-inj, mul-le-mul-left}
 use native.Mathlib.Omega.{arith}
 use lib.ListN.{length, getD, set, length-set, length-take}
 use lib.Seq.{getD-set-same, getD-set-other}
@@ -59,7 +59,7 @@ unfolding charged
 charged-kept w y m shape h p =
     along-keeps (parentOf w) (addedTo m) (λ z. isPresent w z ≡ true) (SumsKept w) (parent-present w shape h)
     (λ x a o k. added-kept w m x a (present-below w shape x o) k)
-    maxJobs (suc y) (w .jobs .overtakers) (λ x e. subst (λ z. isPresent w z ≡ true) (suc-inj e) p)
+    _ (suc y) (w .jobs .overtakers) (λ x e. subst (λ z. isPresent w z ≡ true) (suc-inj e) p)
     (record { length = shape .jobs .overtakers; limit = λ j q. h .jobs j (present-below w shape j q) q .overtakers })
 
 -- The parents after it.
@@ -106,17 +106,17 @@ module _ (w : State) (now t y x : ℕ) (shape : Shaped w) (h : Sound w) (lt : t 
 
   -- What is sold.
 
-  new-sold : (j : ℕ) → isPresent w j ≡ true → costOf w j * at (set (w .jobs .sold) y (at (w .jobs .sold) y + waitingOf w x)) j ≤ at (w .jobs .n) j
+  new-sold : (j : ℕ) → isPresent w j ≡ true → costOf w j * at (preempting w t x y (waitingOf w x) .jobs .sold) j ≤ at (w .jobs .n) j
+  unfolding preempting
   new-sold =
-      set-all (λ j v. isPresent w j ≡ true → costOf w j * v ≤ at (w .jobs .n) j) (w .jobs .sold) y (at (w .jobs .sold) y + waitingOf w x) 0 (omega (arith, shape .jobs .sold, cur .below))
-      (λ p.
-      subst (λ u. settingsOf w u .cost * (at (w .jobs .sold) y + waitingOf w x) ≤ at (w .jobs .n) y) (sym (cur .transport))
-      (omega (arith, pre .pays, h .jobs y (cur .below) p .adds)))
+      set-all (λ j v. isPresent w j ≡ true → costOf w j * v ≤ at (w .jobs .n) j) (w .jobs .sold) y _ 0 (omega (arith, shape .jobs .sold, cur .below))
+      (λ p. rw (cur .transport, costOf) (omega (arith, pre .pays, mul-le-mul-left (settingsOf w t .cost) (pre .waits), h .jobs y (cur .below) p .adds)))
       (λ j ne p. h .jobs j (present-below w shape j p) p .sold)
 
-  new-unsold : (j : ℕ) → isPresent w j ≡ true → costOf w j ≡ 0 → at (set (w .jobs .sold) y (at (w .jobs .sold) y + waitingOf w x)) j ≡ 0
+  new-unsold : (j : ℕ) → isPresent w j ≡ true → costOf w j ≡ 0 → at (preempting w t x y (waitingOf w x) .jobs .sold) j ≡ 0
+  unfolding preempting
   new-unsold =
-      set-all (λ j v. isPresent w j ≡ true → costOf w j ≡ 0 → v ≡ 0) (w .jobs .sold) y (at (w .jobs .sold) y + waitingOf w x) 0 (omega (arith, shape .jobs .sold, cur .below))
+      set-all (λ j v. isPresent w j ≡ true → costOf w j ≡ 0 → v ≡ 0) (w .jobs .sold) y _ 0 (omega (arith, shape .jobs .sold, cur .below))
       (λ p e. absurd (omega (arith, pre .cost, sym (ap (λ t. settingsOf w t .cost) (cur .transport)) ∙ e)))
       (λ j ne p. h .jobs j (present-below w shape j p) p .unsold)
 
@@ -193,7 +193,7 @@ module _ (w : State) (now t y x : ℕ) (shape : Shaped w) (h : Sound w) (lt : t 
               n = k .n;
               picked = k .picked;
               dropped = k .dropped;
-              sold = length-set (w .jobs .sold) y (at (w .jobs .sold) y + waitingOf w x) ∙ k .sold;
+              sold = length-set (w .jobs .sold) y _ ∙ k .sold;
               parent = length-set (w .jobs .parent) x (suc y) ∙ k .parent;
               preempted = length-set (w .jobs .preempted) x true ∙ k .preempted;
               arrival = k .arrival;

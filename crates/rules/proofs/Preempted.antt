@@ -67,11 +67,11 @@ module _ (w : State) (t x y m : ℕ) (shape : Shaped w) where
 
   pub preempting-sold-own : y < maxJobs → at (preempting w t x y m .jobs .sold) y ≡ at (w .jobs .sold) y + m
   unfolding preempting
-  preempting-sold-own l = getD-set-same (w .jobs .sold) y (at (w .jobs .sold) y + m) 0 (omega (arith, shape .jobs .sold))
+  preempting-sold-own l = getD-set-same (w .jobs .sold) y _ 0 (omega (arith, shape .jobs .sold))
 
   pub preempting-sold-other : (j : ℕ) → j ≢ y → at (preempting w t x y m .jobs .sold) j ≡ at (w .jobs .sold) j
   unfolding preempting
-  preempting-sold-other j ne = getD-set-other (w .jobs .sold) y j (at (w .jobs .sold) y + m) 0 ne
+  preempting-sold-other j ne = getD-set-other (w .jobs .sold) y j _ 0 ne
 
   pub preempting-parent-own : x < maxJobs → parentOf (preempting w t x y m) x ≡ suc y
   unfolding preempting

@@ -21,7 +21,7 @@ use Rattle.rules.specs.Sizes.{maxJobs}
 use Rattle.rules.specs.State.{at, settingsOf, listOf, queueOf, isPresent, hasPreempted, waitingOf}
 use Rattle.rules.specs.SoundFacts.{Sound}
 use Rattle.rules.specs.Picking.{hasEligible}
-use Rattle.rules.specs.Preemption.{credit, hasCredit, owned, creditOf, affordable, isCandidate, bestCandidate, paysFor, paysForBest, isPreempted, preemptorOf}
+use Rattle.rules.specs.Preemption.{credit, hasCredit, owned, creditOf, affordable, canPayFor, isCandidate, bestCandidate, paysFor, paysForBest, isPreempted, preemptorOf}
 use Rattle.rules.proofs.Shape.{Shaped}
 use Rattle.rules.proofs.KeptRanges.{cost-range}
 use Rattle.rules.proofs.EntryFacts.{has-eligible-waits}
@@ -43,13 +43,14 @@ pub credit-owned : (c s q : ℕ) → hasCredit (credit c s q) ≡ true → (c * 
 unfolding credit
 credit-owned c s q h = credit-difference s (c * q) h
 
--- "m ≤ (r + a)/c": all that is sold, and m more, is paid by what was picked and what waits
-pub afforded : (c s q r m : ℕ) → 0 < c → hasCredit (credit c s q) ≡ true → affordable c r (owned (credit c s q)) m ≡ true → c * (q + m) ≤ s + r
+-- all that is sold, and m more, is paid by what was picked and what waits
+afforded : (s : State) (t y x : ℕ) → 0 < settingsOf s t .cost → hasCredit (creditOf s t y) ≡ true → canPayFor s t y x ≡ true
+    → settingsOf s t .cost * (at (s .jobs .sold) y + waitingOf s x) ≤ at (s .jobs .picked) y + waitingOf s y
 unfolding affordable
-afforded c s q r m some h a =
-    let o = credit-owned c s q h in
-    let l = le-div-iff-mul-le {k = c} {x = m} {y = r + owned (credit c s q)} some .0 (leb-true m ((r + owned (credit c s q)) / c) a) in
-    omega (arith, mul-comm m c)
+afforded s t y x some h e =
+    let o = credit-owned (settingsOf s t .cost) (at (s .jobs .picked) y) (at (s .jobs .sold) y) h in
+    let l = le-div-iff-mul-le {k = settingsOf s t .cost} {x = waitingOf s x} {y = _} some .0 (leb-true _ _ e) in
+    omega (arith, mul-comm (waitingOf s x) (settingsOf s t .cost))
 
 pub record Preempts (w : State) (now t y x : ℕ) : Type 0 where
   pub best : Best w now t y (length (listOf (w .arrivals))) x
@@ -127,6 +128,6 @@ preemptor-found w now t y x shape h l cur e =
       long = f .2;
       credit = o .0;
       picked = omega (arith, o .0);
-      pays = afforded (settingsOf w t .cost) (at (w .jobs .picked) y) (at (w .jobs .sold) y) (waitingOf w y) (waitingOf w x) (omega arith) (f .1) (c .affordable);
+      pays = afforded w t y x (omega arith) (f .1) (c .affordable);
       behind = stands-behind w t y x shape h l cur (c .other) (once .passes x here) (c .transport) (c .eligible);
     }

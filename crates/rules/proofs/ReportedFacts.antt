@@ -6,7 +6,6 @@ use mathlib.Core.Bool.{Bool, true, false, _&&_}
 use mathlib.Core.List.{map}
 use native.Mathlib.Omega.{arith}
 use lib.Dec.{eqb}
-use Rattle.laws.specs.Chain.{firstAlong}
 use Rattle.laws.specs.Sequence.{keep, timesIn}
 use Rattle.laws.proofs.Count.{count-none}
 use Rattle.laws.proofs.Keep.{keep-same}
@@ -17,7 +16,7 @@ use Rattle.rules.specs.declared.State.{State}
 use Rattle.rules.specs.Sizes.{maxTransports, maxJobs, maxEntries}
 use Rattle.rules.specs.State.{at, healthOf, transportOf, listOf, queueOf, isBusy, isPresent, jobOf, destinationOf, waitsOf, waitingOf, parentOf}
 use Rattle.rules.specs.SoundFacts.{Sound}
-use Rattle.rules.specs.Reporting.{reportedHealth, dies, isPutOff, putOffEntries, putOffOf, settled, stays, departed, reportedAt, reporting}
+use Rattle.rules.specs.Reporting.{reportedHealth, dies, isPutOff, putOffEntries, putOffOf, settled, stays, nearestStaying, departed, reportedAt, reporting}
 use Rattle.rules.proofs.Shape.{Shaped}
 use Rattle.rules.proofs.Settled.{settled-waiting}
 use Rattle.rules.proofs.SettledCounts.{reported-entry, reported-transport}
@@ -171,15 +170,13 @@ module _ (w : State) (now e : ℕ) (outcome : Outcome) (shaped : Shaped w) (soun
 
   -- Parents.
 
-  stays-are-present : stays (settledBy w now e outcome) ≡ isPresent (reportedBy w now e outcome)
+  pub stays-are-present : stays (settledBy w now e outcome) ≡ isPresent (reportedBy w now e outcome)
   stays-are-present = fun-ext λ j. sym (reported-present j)
 
   -- a job that stays goes to the nearest ancestor that stays
-  pub reported-parent : (j : ℕ) → isPresent (reportedBy w now e outcome) j ≡ true → parentOf (reportedBy w now e outcome) j ≡ firstAlong (isPresent (reportedBy w now e outcome)) (parentOf w) maxJobs (parentOf w j)
-  unfolding reporting reportedAt settled
-  reported-parent j h =
-      departed-parent-stays (settledBy w now e outcome) (transportOf w (destinationOf w e)) settledShape j (sym (reported-present j) ∙ h)
-      ∙ ap (λ p. firstAlong p (parentOf w) maxJobs (parentOf w j)) stays-are-present
+  pub reported-parent : (j : ℕ) → isPresent (reportedBy w now e outcome) j ≡ true → parentOf (reportedBy w now e outcome) j ≡ nearestStaying (settledBy w now e outcome) j
+  unfolding reporting reportedAt
+  reported-parent j h = departed-parent-stays (settledBy w now e outcome) (transportOf w (destinationOf w e)) settledShape j (sym (reported-present j) ∙ h)
 
   -- the link of one that leaves stands
   pub left-parent : (j : ℕ) → j < maxJobs → isPresent (reportedBy w now e outcome) j ≡ false → parentOf (reportedBy w now e outcome) j ≡ parentOf w j

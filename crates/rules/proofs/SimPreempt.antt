@@ -17,7 +17,7 @@ use Rattle.laws.specs.Sequence.{moveBefore}
 use Rattle.laws.specs.Update.{upd}
 use Rattle.laws.proofs.Choice.{true-not-false, if-cases, case-bool, if-true, if-false}
 use Rattle.laws.proofs.Update.{upd-same, upd-other, at-or-off, upd-all}
-use Rattle.laws.proofs.Chain.{first-along-here, first-along-same, first-along-ok}
+use Rattle.laws.proofs.Chain.{along-enough, first-along-here, first-along-same, first-along-ok}
 use Rattle.laws.proofs.Onto.{along-at, on-ok}
 use Rattle.laws.proofs.Once.{once-le}
 use Rattle.laws.proofs.Order.{before-trans, before-left, before-right}
@@ -275,9 +275,14 @@ module _ {u : Setup} {w : State} {y : Tally} {g : Columns} (m : Sim u w y g) (sh
       go l b zero q f = absurd (suc-ne-zero v (sym (unfold jobLink in f)))
       go l b (suc i) q f = led l i b q f
 
-  state-walk : (z : ℕ) → at (charged (parentOf w) b k (w .jobs .overtakers)) z
+  -- it goes as far as the chain
+  whole-walk : charged (parentOf w) b k (w .jobs .overtakers) ≡ alongChain (parentOf w) (addedTo k) 32 (suc b) (w .jobs .overtakers)
+  unfolding charged
+  whole-walk = along-enough (parentOf w) (addedTo k) 32 _ (suc b) (w .jobs .overtakers) (omega arith) (chain-ends w shaped sound b (cur .present))
+
+  state-walk : (z : ℕ) → at (alongChain (parentOf w) (addedTo k) 32 (suc b) (w .jobs .overtakers)) z
       ≡ (if onChain (parentOf w) 32 (suc b) z then min (at (w .jobs .overtakers) z + k) sumLimit else at (w .jobs .overtakers) z)
-  unfolding charged addedTo
+  unfolding addedTo
   state-walk z =
       along-at (parentOf w) jobDepth (addedTo k) at (λ v. min (v + k) sumLimit) (λ z. isPresent w z ≡ true) (λ l. length l ≡ 32)
       (λ z v h e. parent-present w shaped sound z v h e) parent-deeper (λ z l h e. length-set l z _ ∙ e)
@@ -287,7 +292,7 @@ module _ {u : Setup} {w : State} {y : Tally} {g : Columns} (m : Sim u w y g) (sh
   -- overtaking sums: the walk up the parents and the walk up the names grow the same ones, and the stop does not bite
   over-after : (z i : ℕ) → isPresent w z ≡ true → JobIs w (y .rows) g z i → at (after .jobs .overtakers) z ≡ g' .over i
   over-after z i h r =
-      ap (λ l. at l z) (preempting-overtakers w t x b k)
+      ap (λ l. at l z) (preempting-overtakers w t x b k ∙ whole-walk)
       ∙ state-walk z ∙ both (onChain (parentOf w) 32 (suc b) z) (onChain (g .names) (g .rows) (suc bi) i)
       (parents-are-names m 32 b bi z i (chain-ends w shaped sound b (cur .present)) (cur .present) eb h (r .link)) (r .over) (λ on. few-over i (row-inside m z i (r .link)) on (r .n) (job-n z h))
       ∙ sym (column-walk i)

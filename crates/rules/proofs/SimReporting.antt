@@ -27,10 +27,11 @@ use Rattle.rules.specs.declared.Outcome.{Outcome}
 use Rattle.rules.specs.Sizes.{maxEntries}
 use Rattle.rules.specs.State.{at, queueOf, isPresent, isBusy, hasPreempted, waitingOf, parentOf}
 use Rattle.rules.specs.SoundFacts.{Sound}
+use Rattle.rules.specs.Reporting.{settled, stays, nearestStaying}
 use Rattle.rules.specs.Tally.{Row, Tally, rowAt, rowOf}
 use Rattle.rules.proofs.Shape.{Shaped}
 use Rattle.rules.proofs.EntryFacts.{present-below}
-use Rattle.rules.proofs.ReportedFacts.{reportedBy, ReportLeaves, report-leaves, reported-waiting-le, reported-was-present, left-waiting, reported-queue, reported-parent}
+use Rattle.rules.proofs.ReportedFacts.{settledBy, reportedBy, ReportLeaves, report-leaves, reported-waiting-le, reported-was-present, left-waiting, reported-queue, stays-are-present, reported-parent}
 use Rattle.rules.proofs.Rows.{row-of-is}
 use Rattle.rules.proofs.Sim.{presentRow, jobLink, Ahead, RowIs, JobIs, Sim}
 use Rattle.rules.proofs.SimRows.{row-inside, present-of, present-row-is, near-test}
@@ -100,14 +101,17 @@ module _ {u : Setup} {w : State} {y : Tally} {g : Columns} (m : Sim u w y g) (no
 
   parent-after : (j i : ℕ) → isPresent after j ≡ true → JobIs w (y .rows) g j i
       → parentOf after j ≡ jobLink (y .rows) (near (presentRow after (y .rows)) (g .names) (g .rows) i)
-  unfolding near
+  unfolding near settled
   parent-after j i h r =
       let l : i < g .rows = row-inside m j i (r .link) in
       let k : ℕ = parentOf w j in
       let was : isPresent w j ≡ true = was-present j h in
+      let ends : endsIn (parentOf w) 32 k ≡ true = sound .jobs j (present-below w shaped j was) was .ends in
+      let nearest : nearestStaying (settledBy w now e outcome) j ≡ firstAlong (stays (settledBy w now e outcome)) (parentOf w) 32 k =
+      first-along-enough (stays (settledBy w now e outcome)) (parentOf w) 32 _ k (omega arith) ends in
       reported-parent w now e outcome shaped sound inside busy j h
-      ∙ sym
-      (first-along-enough (isPresent after) (parentOf w) 32 (32 + g .rows) (parentOf w j) (omega arith) (sound .jobs j (present-below w shaped j was) was .ends))
+      ∙ nearest ∙ ap (λ p. firstAlong p (parentOf w) 32 k) (stays-are-present w now e outcome shaped sound inside busy)
+      ∙ sym (first-along-enough (isPresent after) (parentOf w) 32 (32 + g .rows) k (omega arith) ends)
       ∙ ap (firstAlong (isPresent after) (parentOf w) (32 + g .rows)) (r .parent)
       ∙ same-first (32 + g .rows) (up m i) (up-present m i)
       ∙ ap (jobLink (y .rows))

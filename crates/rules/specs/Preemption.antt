@@ -37,6 +37,10 @@ creditOf s t y = credit (settingsOf s t .cost) (at (s .jobs .picked) y) (at (s .
 unfoldable pub affordable : ℕ → ℕ → ℕ → ℕ → Bool
 affordable c r a m = leb m ((r + a) / c)
 
+-- the current job y can pay for all that waits of x
+abbrev pub canPayFor : State → ℕ → ℕ → ℕ → Bool
+canPayFor s t y x = affordable (settingsOf s t .cost) (waitingOf s y) (owned (creditOf s t y)) (waitingOf s x)
+
 -- "A candidate is another job of the transport, never picked from, never having preempted, with an eligible entry, and m ≤ (r + a)/c"
 unfoldable pub isCandidate : State → ℕ → ℕ → ℕ → Bool
 isCandidate s t y x =
@@ -45,7 +49,7 @@ isCandidate s t y x =
     && eqb (at (s .jobs .picked) x) 0
     && not (hasPreempted s x)
     && hasEligible s x
-    && affordable (settingsOf s t .cost) (waitingOf s y) (owned (creditOf s t y)) (waitingOf s x)
+    && canPayFor s t y x
 
 -- "greatest (now - arrival + 1)/m as an exact fraction": that of x is greater than that of b
 unfoldable pub beats : State → ℕ → ℕ → ℕ → Bool

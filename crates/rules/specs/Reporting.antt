@@ -97,9 +97,13 @@ settled s e d health died =
 unfoldable pub stays : State → ℕ → Bool
 stays s j = isPresent s j && anyTo (usedOf s j) maxEntries
 
+-- the link to "the nearest ancestor that stays"; 0 where there is none
+abbrev pub nearestStaying : State → ℕ → ℕ
+nearestStaying s j = firstAlong (stays s) (parentOf s) maxJobs (parentOf s j)
+
 -- "Its children pass to the nearest ancestor that stays, or to none"
 unfoldable pub parentAfter : State → ℕ → ℕ
-parentAfter s j = if stays s j then firstAlong (stays s) (parentOf s) maxJobs (parentOf s j) else parentOf s j
+parentAfter s j = if stays s j then nearestStaying s j else parentOf s j
 
 abbrev pub remainingJobs : Jobs → List Bool → List ℕ → Jobs
 remainingJobs g present parent =
