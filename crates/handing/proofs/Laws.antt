@@ -1,12 +1,12 @@
 -- What the code of a preemption leaves is the rule's state.
-use Prim.Native.Nat.{ℕ, zero, suc, _+_, _%_, _<_}
-use mathlib.Core.Path.{_≡_, refl, sym, ap, subst}
+use Prim.Native.Nat.{ℕ, _+_, _%_, _<_}
+use mathlib.Core.Path.{_≡_, refl, sym, subst}
 use mathlib.Core.Bool.{true}
-use mathlib.Core.List.{List, [], _∷_}
-use native.Mathlib.Nat.{not-suc-le-zero, le-of-suc-le-suc}
+use mathlib.Core.List.{List, []}
 use native.Mathlib.Numerals.{add-one}
 use lib.ListN.{length, getD, set}
 use Rattle.laws.specs.Sequence.{moveBefore}
+use Rattle.laws.proofs.Columns.{getD-default}
 use Rattle.rules.specs.declared.JobList.{JobList}
 use Rattle.rules.specs.declared.Jobs.{Jobs}
 use Rattle.rules.specs.declared.State.{State}
@@ -15,12 +15,7 @@ use Rattle.rules.specs.State.{at, zeroList, listOf, listed, queueOf, parentOf, 
 use Rattle.rules.specs.Preemption.{charged, preempting}
 use Rattle.rules.specs.Pick.{pickedJobs, pickedEntries, oneMoreBusy, handedOut}
 
--- inside a list the default does not matter
-pub getD-default : {A : Type 0} (l : List A) (i : ℕ) (a b : A) → i < length l → getD l i a ≡ getD l i b
-getD-default [] i a b h = absurd (not-suc-le-zero h)
-getD-default (x ∷ l) zero a b h = refl
-getD-default (x ∷ l) (suc i) a b h = getD-default l i a b (le-of-suc-le-suc h)
-
+-- a transport's list, whatever stands past the end
 pub same-list : (w : State) (t : ℕ) → length (w .queues) ≡ 4 → t < 4 → getD (w .queues) t (record { jobs = []; count = 0 }) ≡ getD (w .queues) t zeroList
 same-list w t e h = getD-default (w .queues) t (record { jobs = []; count = 0 }) zeroList (subst (λ n. t < n) (sym e) h)
 

@@ -1,10 +1,18 @@
--- A column with one place written, by places.
-use Prim.Native.Nat.{ℕ, _<_}
+-- A column read by places, and with one place written.
+use Prim.Native.Nat.{ℕ, zero, suc, _<_}
+use mathlib.Core.Path.{_≡_, refl}
 use mathlib.Core.Logic.{_≢_}
-use mathlib.Core.List.{List}
+use mathlib.Core.List.{List, [], _∷_}
+use native.Mathlib.Nat.{not-suc-le-zero, le-of-suc-le-suc}
 use native.Mathlib.Decide.{ℕ-discrete}
 use lib.ListN.{length, getD, set}
 use lib.Seq.{getD-set-same, getD-set-other}
+
+-- inside the column the default does not matter
+pub getD-default {ℓ} : {A : Type ℓ} (l : List A) (i : ℕ) (d e : A) → i < length l → getD l i d ≡ getD l i e
+getD-default [] i d e h = absurd (not-suc-le-zero h)
+getD-default (x ∷ l) zero d e h = refl
+getD-default (x ∷ l) (suc i) d e h = getD-default l i d e (le-of-suc-le-suc h)
 
 -- what holds of the new element, and of the old ones elsewhere, holds everywhere
 pub set-all {ℓ κ} : {A : Type ℓ} (P : ℕ → A → Type κ) (l : List A) (i : ℕ) (v d : A) → i < length l → P i v → ((j : ℕ) → j ≢ i → P j (getD l j d)) → (j : ℕ) → P j (getD (set l i v) j d)

@@ -5,7 +5,6 @@ use mathlib.Core.Bool.{Bool, true, false}
 use mathlib.Core.Logic.{_≢_}
 use mathlib.Core.List.{List, [], _∷_, _++_, append-assoc}
 use native.Mathlib.Decide.{ℕ-discrete}
-use native.Mathlib.Nat.{not-suc-le-zero}
 use native.Mathlib.Numerals.{add-one}
 use native.Mathlib.Omega.{arith}
 use lib.ListN.{length, getD, set, drop}
@@ -50,9 +49,3 @@ module _ {ℓ} {A : Type ℓ} (f : ℕ → A) (l : List A) where
 
   pub fill-all : (n : ℕ) {a : List A} → length l ≡ n → a ≡ tableTo f n ++ drop n l → a ≡ tableTo f n
   fill-all n h e = e ∙ table-full f l n (omega arith)
-
--- within the list the default does not matter (crate choice has this law too)
-pub getD-default {ℓ} : {A : Type ℓ} (l : List A) (i : ℕ) (d e : A) → i < length l → getD l i d ≡ getD l i e
-getD-default [] i d e h = absurd (not-suc-le-zero h)
-getD-default (x ∷ l) zero d e h = refl
-getD-default (x ∷ l) (suc i) d e h = getD-default l i d e (omega arith)

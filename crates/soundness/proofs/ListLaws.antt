@@ -22,10 +22,11 @@ use Rattle.laws.proofs.Index.{holds-take, times-take}
 use Rattle.laws.proofs.Once.{EachOnce, once-facts, once-of, once-times}
 use Rattle.laws.proofs.Sequence.{every-at, every-append-both, holds-append-cases, holds-cases, holds-getD}
 use Rattle.laws.proofs.Falling.{falling-last, falling-getD}
+use Rattle.laws.proofs.Columns.{getD-default}
 use Rattle.rules.specs.declared.JobList.{JobList}
 use Rattle.rules.specs.State.{at, zeroList, listOf}
 use Rattle.soundness.specs.Columns.{queueTest}
-use Rattle.soundness.proofs.Laws.{each-once-same, getD-any}
+use Rattle.soundness.proofs.Laws.{each-once-same}
 
 -- after n places of l, the table has those that pass the test and were not met
 pub record Left (p : ℕ → Bool) (l : List ℕ) (n : ℕ) (left : List Bool) : Type 0 where
@@ -172,7 +173,7 @@ pub queue-tested :
 unfolding queueTest
 queue-tested queues present transport t these r b h e =
     e
-    ∙ ap (λ (q : JobList). leb (q .count) 32 && holdsEachOnce (λ x. getD these x false) 32 (listOf q)) (getD-any queues t noList zeroList b)
+    ∙ ap (λ (q : JobList). leb (q .count) 32 && holdsEachOnce (λ x. getD these x false) 32 (listOf q)) (getD-default queues t noList zeroList b)
     ∙ ap (λ b. leb (getD queues t zeroList .count) 32 && b)
     (each-once-same (λ x. getD these x false) (λ j. getD present j false && eqb (at transport j) t) 32 (listOf (getD queues t zeroList)) h)
 

@@ -5,7 +5,7 @@ use mathlib.Core.Path.{_≡_, refl, sym, ap, _∙_}
 use mathlib.Core.Logic.{_≢_}
 use mathlib.Core.List.{List, [], _∷_, _++_}
 use native.Mathlib.Omega.{arith}
-use native.Mathlib.Nat.{le-step, lt-suc-self, pos-of-ne-zero, not-suc-le-zero, le-of-suc-le-suc}
+use native.Mathlib.Nat.{le-step, lt-suc-self, pos-of-ne-zero}
 use lib.ListN.{length, getD, take, drop, set}
 use lib.Seq.{paste, take-all}
 use lib.Dec.{eqb}
@@ -14,6 +14,7 @@ use Rattle.laws.specs.Choice.{if_then_else_}
 use Rattle.laws.specs.Range.{countTo, chosenTo, foldTo, tableTo}
 use Rattle.laws.specs.Sequence.{everyIn, padded, firstsTo, holds}
 use Rattle.laws.proofs.Choice.{and-left-false}
+use Rattle.laws.proofs.Columns.{getD-default}
 use Rattle.laws.proofs.Count.{count-lt-bound}
 use Rattle.laws.proofs.First.{chosen-below}
 use Rattle.laws.proofs.Firsts.{firsts-length}
@@ -201,12 +202,6 @@ facts-of s now t dests list after r ds dead a e f p =
       wrote = p .list ∙ ap (λ vs. written vs list) off;
     }
 
--- inside a list it does not matter what stands for what lies past its end
-getD-any {ℓ} : {A : Type ℓ} (l : List A) (i : ℕ) (a b : A) → i < length l → getD l i a ≡ getD l i b
-getD-any [] i a b h = absurd (not-suc-le-zero h)
-getD-any (x ∷ l) zero a b h = refl
-getD-any (x ∷ l) (suc i) a b h = getD-any l i a b (le-of-suc-le-suc h)
-
 -- a list without all 32 jobs has room for one more
 room-in : (p : ℕ → Bool) (j : ℕ) (l : List ℕ) → EachOnce p 32 l → j < 32 → p j ≡ false → length l < 32
 room-in p j l once h f = omega (arith, once-length p 32 l once, count-lt-bound p 32 j h f)
@@ -286,7 +281,7 @@ module _ {s : State} {now t : ℕ} {dests list after : List ℕ} {r : Parts} (f 
         let h = sound-facts s (f .accepted .whole) in
         let l = f .accepted .transport in
         let j = newNumber (woken s now) in
-        let e : getD (s .queues) t z ≡ getD (s .queues) t zeroList = getD-any (s .queues) t z zeroList (rw long (accepted-transport s now t dests list (f .accepted))) in
+        let e : getD (s .queues) t z ≡ getD (s .queues) t zeroList = getD-default (s .queues) t z zeroList (rw long (accepted-transport s now t dests list (f .accepted))) in
         rw e (
           h .queues t l .count,
           room-in (isJobOn s t) j (queueOf s t) (queue-once s h t l) (number-small j refl) (and-left-false (eqb (at (s .jobs .transport) j) t) absent),
@@ -298,4 +293,4 @@ module _ {s : State} {now t : ℕ} {dests list after : List ℕ} {r : Parts} (f 
         → q ≡ listed (listOf (getD (s .queues) t z) ++ (j ∷ []))
         → q ≡ listed (queueOf s t ++ (j ∷ []))
     queue-is z j q long e =
-        e ∙ ap (λ v. listed (listOf v ++ (j ∷ []))) (getD-any (s .queues) t z zeroList (rw long (accepted-transport s now t dests list (f .accepted))))
+        e ∙ ap (λ v. listed (listOf v ++ (j ∷ []))) (getD-default (s .queues) t z zeroList (rw long (accepted-transport s now t dests list (f .accepted))))

@@ -1,5 +1,5 @@
 -- Within the array the default does not matter. Assumes nothing.
-use Rattle.leaving.proofs.Lists.{getD-default}
+use Rattle.laws.proofs.Columns.{getD-default}
 use borrow.Author.Needs.{needs}
 use Rattle.leaving.proofs.queue_of.Statement.{statement}
 use Rattle.leaving.proofs.queue_of.Tie as tie
