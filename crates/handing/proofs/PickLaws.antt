@@ -1,45 +1,43 @@
 -- A pick put together: what was chosen may be handed out, and what is handed out is what the rules pick.
-use Prim.Native.Nat.{ℕ, zero, suc, _+_, _*_, _≤_, _<_}
+use Prim.Native.Nat.{ℕ, suc, _+_, _*_, _≤_, _<_}
 use mathlib.Core.Path.{_≡_, refl, sym, _∙_, ap, subst}
-use mathlib.Core.Bool.{Bool, true, false}
+use mathlib.Core.Bool.{true, false}
 use mathlib.Core.List.{List, [], _∷_}
-use native.Mathlib.Nat.{lt-of-lt-of-le, le-trans, suc-inj, not-suc-le-zero, mul-le-mul-right}
+use native.Mathlib.Nat.{lt-of-lt-of-le, le-trans, mul-le-mul-right}
 use native.Mathlib.Omega.{arith}
 use mir.Syntax.{w32}
 use mir.Val.{Fits}
-use lib.ListN.{getD}
-use lib.Dec.{ltb, eqb}
-use borrow.Author.Tests.{lt-ltb, eq-eqb}
+use lib.Dec.{eqb}
+use borrow.Author.Tests.{eq-eqb}
 use Rattle.laws.specs.Choice.{if_then_else_}
-use Rattle.laws.specs.Range.{countTo, tableTo}
-use Rattle.laws.proofs.Choice.{true-not-false, case-bool, and-both, if-true, if-false}
+use Rattle.laws.specs.Range.{tableTo}
+use Rattle.laws.proofs.Choice.{true-not-false, case-bool, and-both}
 use Rattle.laws.proofs.Chain.{link-cases}
 use Rattle.laws.proofs.Count.{count-le-bound}
-use Rattle.laws.proofs.Once.{EachOnce}
-use Rattle.charging.specs.Links.{leadsInside}
+use Rattle.charging.proofs.Leads.{leads-inside}
 use Rattle.choice.specs.declared.Choice.{Choice}
 use Rattle.choice.specs.Choosing.{waitingAt, pickedFrom, chosenOn, choiceOf}
 use Rattle.rules.specs.declared.Destination.{Destination}
 use Rattle.rules.specs.declared.State.{State}
 use Rattle.rules.specs.Sizes.{maxDestinations, maxEntries, lastSecond}
-use Rattle.rules.specs.State.{at, settingsOf, zeroList, queueOf, isPresent, waitingOf, parentOf, destinationOf, transportOf}
+use Rattle.rules.specs.State.{at, settingsOf, isPresent, waitingOf, destinationOf}
 use Rattle.rules.specs.Setup.{setupInRange}
-use Rattle.rules.specs.Sound.{sound, busyOn, busyTo, isJobOn}
+use Rattle.rules.specs.Sound.{busyOn, busyTo, isJobOn}
 use Rattle.rules.specs.SoundFacts.{Sound}
 use Rattle.rules.specs.Windows.{wokenAt, woken}
-use Rattle.rules.specs.Picking.{finds, hasEligible, nextTransport, currentJob, passedOver, nextPlace, nextEntry}
+use Rattle.rules.specs.Picking.{finds, nextTransport, currentJob, passedOver, nextPlace, nextEntry}
 use Rattle.rules.specs.Preemption.{preempting, preemptorOf}
-use Rattle.rules.specs.Pick.{Picked, nobody, preemption, handedOut, pickFrom, pickWith, pickOn, picking}
+use Rattle.rules.specs.Pick.{handedOut, pickFrom, pickWith, pickOn, picking}
 use Rattle.rules.specs.Refusals.{pickRefusal}
-use Rattle.rules.specs.Calls.{Says, Reply, answers, pickingReply, afterPick}
+use Rattle.rules.specs.Calls.{answers, pickingReply, afterPick}
 use Rattle.rules.proofs.Shape.{Shaped}
 use Rattle.rules.proofs.Soundness.{sound-facts, in-range-of}
 use Rattle.rules.proofs.EntryFacts.{present-below, waiting-used}
-use Rattle.rules.proofs.Accepted.{GoodClock, pick-accepted}
+use Rattle.rules.proofs.Accepted.{pick-accepted}
 use Rattle.rules.proofs.KeptWaking.{kept-woken}
 use Rattle.rules.proofs.Picked.{TransportFound, transport-found, Current, current-found, queue-once}
 use Rattle.rules.proofs.Preemptor.{Preempts, preemptor-found}
-use Rattle.rules.proofs.KeptPreempting.{parent-present, kept-preempting}
+use Rattle.rules.proofs.KeptPreempting.{kept-preempting}
 use Rattle.rules.proofs.Preempted.{preempting-eligible, preempting-place, preempting-entry}
 use Rattle.rules.proofs.HandedOut.{CanHandOut}
 use Rattle.rules.proofs.KeptPicking.{next-can}
@@ -103,18 +101,6 @@ may-hand-out w t j place e shaped whole lane there can =
       busyDestination = omega (arith, whole .busyDestination (destinationOf w e) few, count-le-bound (busyTo w (destinationOf w e)) maxEntries);
     }
 
--- the chain of parents of a present job stays among the job numbers
-leads : (w : State) → Shaped w → Sound w → (n y : ℕ) → isPresent w y ≡ true → leadsInside (parentOf w) n (suc y) ≡ true
-unfolding leadsInside
-leads w shaped whole zero y h = refl
-leads w shaped whole (suc n) y h =
-    and-both (lt-ltb y 32 (present-below w shaped y h))
-    (link-cases (λ k. parentOf w y ≡ k → leadsInside (parentOf w) n k ≡ true) (parentOf w y) (λ e. none n) (λ p q e. leads w shaped whole n p (parent-present w shaped whole y p h e)) refl)
-  where
-    none : (n : ℕ) → leadsInside (parentOf w) n 0 ≡ true
-    none zero = refl
-    none (suc n) = refl
-
 may-preempt : (w : State) (now t y x : ℕ) → Shaped w → Sound w → t < w .setup .transports → Current w t y → Preempts w now t y x → MayPreempt w t x y (waitingOf w x)
 unfolding isJobOn
 may-preempt w now t y x shaped whole lane cur p =
@@ -131,7 +117,7 @@ may-preempt w now t y x shaped whole lane cur p =
       movers = once .once x (p .below) (and-both (p .present) (on (p .transport)));
       payers = once .once y (cur .below) (and-both (cur .present) (on (cur .transport)));
       sold = small (settingsOf w t .cost) (at (w .jobs .sold) y + waitingOf w x) (p .cost) (le-trans (p .pays) (omega (arith, r .adds, r .n .1)));
-      chain = leads w shaped whole 32 y (cur .present);
+      chain = leads-inside w shaped whole 32 y (cur .present);
     }
   where
     small : (c k : ℕ) → 2 ≤ c → c * k ≤ 256 → k ≤ 65535
