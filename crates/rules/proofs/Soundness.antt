@@ -3,7 +3,7 @@ use Prim.Native.Nat.{ℕ, zero, suc, _+_, _*_, _≤_, _<_}
 use mathlib.Core.Path.{_≡_, refl, sym, _∙_, ap}
 use mathlib.Core.Logic.{_⊎_, inl, inr, ⊎-elim}
 use mathlib.Core.Bool.{Bool, true, false, not, _&&_, _||_}
-use native.Mathlib.Nat.{suc-inj, suc-ne-zero}
+use native.Mathlib.Nat.{suc-inj, suc-ne-zero, lt-of-lt-of-le}
 use lib.ListN.{getD}
 use lib.Dec.{eqb, ltb, leb}
 use borrow.Author.Tests.{ltb-true, leb-true, eqb-true, lt-ltb, le-leb, eq-eqb, not-true}
@@ -70,6 +70,10 @@ module _ (u : Setup) where
       and-both
       (and-both (and-both (within-of (r .transports)) (within-of (r .destinations))) (all-from (λ t. settingsInRange (getD (u .settings) t zeroSettings)) (u .transports) (r .settings)))
       (all-from (λ d. ltb (at (u .home) d) (u .transports)) (u .destinations) λ d l. lt-ltb (at (u .home) d) (u .transports) (r .home d l))
+
+  -- a destination's transport is one of the four
+  pub home-below : setupInRange u ≡ true → (d : ℕ) → d < u .destinations → at (u .home) d < maxTransports
+  home-below h d l = let r = in-range-facts h in lt-of-lt-of-le (r .home d l) (r .transports .1)
 
 -- A live destination.
 

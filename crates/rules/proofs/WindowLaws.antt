@@ -53,7 +53,7 @@ windows-range g h =
 
 -- Feedback is at most 1.
 
-percent-le : (f : Feedback) → feedbackInRange f ≡ true → f .percent ≤ 100
+pub percent-le : (f : Feedback) → feedbackInRange f ≡ true → f .percent ≤ 100
 unfolding feedbackInRange
 percent-le f h = within-facts (and-left (within 0 100 (f .percent)) (within 0 1 (f .form)) h) .1
 

@@ -18,7 +18,7 @@ use Rattle.rules.specs.declared.Health.the-variants.{Live}
 use Rattle.rules.specs.declared.Destination.{Destination}
 use Rattle.rules.specs.State.{at, zeroSettings, zeroDestination}
 use Rattle.rules.specs.Setup.{within, settingsInRange, setupInRange, firstState, firstDestination}
-use Rattle.window.proofs.Ranges.{within-high}
+use Rattle.rules.proofs.Soundness.{within-facts}
 use Rattle.window.proofs.Fill.{table-rest}
 
 module _ (u : Setup) (a b : Bool) (ea : a ≡ within 1 4 (u .transports)) (eb : b ≡ within 1 32 (u .destinations)) where
@@ -27,10 +27,10 @@ module _ (u : Setup) (a b : Bool) (ea : a ≡ within 1 4 (u .transports)) (eb : 
   setup-refused h = rw (← ea, ← eb, not-true (a && b) h)
 
   pub transports-fit : not (a && b) ≡ false → u .transports ≤ 4
-  transports-fit h = within-high 1 4 (u .transports) (sym ea ∙ and-left a b (not-false (a && b) h))
+  transports-fit h = within-facts (sym ea ∙ and-left a b (not-false (a && b) h)) .1
 
   pub destinations-fit : not (a && b) ≡ false → u .destinations ≤ 32
-  destinations-fit h = within-high 1 32 (u .destinations) (sym eb ∙ and-right a b (not-false (a && b) h))
+  destinations-fit h = within-facts (sym eb ∙ and-right a b (not-false (a && b) h)) .1
 
   pub setup-tested : (x y : Bool) → not (a && b) ≡ false → x ≡ allTo (λ t. settingsInRange (getD (u .settings) t zeroSettings)) (u .transports)
       → y ≡ allTo (λ d. ltb (at (u .home) d) (u .transports)) (u .destinations) → x && y ≡ setupInRange u

@@ -7,7 +7,8 @@ use borrow.Author.Tests.{not-true, not-false}
 use Rattle.laws.proofs.Choice.{true-not-false, false-of}
 use Rattle.soundness.proofs.ListLaws.{listed-below}
 use Rattle.soundness.proofs.TallyLaws.{counts-within}
-use Rattle.soundness.proofs.Ranges.{transports-few, destinations-few, home-few}
+use Rattle.rules.proofs.Soundness.{home-below}
+use Rattle.soundness.proofs.Ranges.{transports-few, destinations-few}
 use Rattle.soundness.proofs.Parts.{part-range, part-turn, part-orders, part-entries, part-on, part-to, part-jobs, part-queues, part-arrivals, part-rising, whole}
 use borrow.Author.Needs.{needs}
 use Rattle.soundness.proofs.sound.Statement.{statement}
@@ -41,7 +42,7 @@ returns-3 : tie.Need-returns-3
 returns-3 c = sym (false-of λ h. true-not-false (part-orders (c .before .before .before .before .before .before .before .before .before .before .before .before .before .before .args .s) h) (sym (c .before .mark-orders .ensures .right) ∙ not-true _ (c .if3 .taken)))
 
 count-entries-requires : tie.Need-count-entries-requires
-count-entries-requires c κs = (destinations-few _ (sym (c .before .before .before .before .before .before .before .before .before .before .before .before .before .before .before .before .before .before .before .before .before .before .in-range .ensures) ∙ not-false _ (c .before .before .before .before .before .before .before .before .before .before .before .before .before .before .before .before .before .before .before .before .before .if1 .left)), ((present-long (c .before .before .before .before .before .before .before .before .before .before .before .before .before .before .before .before .before .before .before .before .before .before .before .before)), home-few _ (sym (c .before .before .before .before .before .before .before .before .before .before .before .before .before .before .before .before .before .before .before .before .before .before .in-range .ensures) ∙ not-false _ (c .before .before .before .before .before .before .before .before .before .before .before .before .before .before .before .before .before .before .before .before .before .if1 .left))))
+count-entries-requires c κs = (destinations-few _ (sym (c .before .before .before .before .before .before .before .before .before .before .before .before .before .before .before .before .before .before .before .before .before .before .in-range .ensures) ∙ not-false _ (c .before .before .before .before .before .before .before .before .before .before .before .before .before .before .before .before .before .before .before .before .before .if1 .left)), ((present-long (c .before .before .before .before .before .before .before .before .before .before .before .before .before .before .before .before .before .before .before .before .before .before .before .before)), home-below _ (sym (c .before .before .before .before .before .before .before .before .before .before .before .before .before .before .before .before .before .before .before .before .before .before .in-range .ensures) ∙ not-false _ (c .before .before .before .before .before .before .before .before .before .before .before .before .before .before .before .before .before .before .before .before .before .if1 .left))))
 
 returns-4 : tie.Need-returns-4
 returns-4 c = sym (false-of λ h. true-not-false (part-entries (c .before .before .before .before .before .before .before .before .before .before .before .before .before .before .before .before .before .before .before .before .before .before .before .before .before .before .before .args .s) (present-long (c .before .before .before .before .before .before .before .before .before .before .before .before .before .before .before .before .before .before .before .before .before .before .before .before .before .before .before)) _ (c .before .before .before .before .before .before .before .before .before .before .before .before .before .before .mark-orders .ensures .marks (not-false _ (c .before .before .before .before .before .before .before .before .before .before .before .before .before .if3 .left))) h) (sym (c .before .before .count-entries .ensures .right) ∙ not-true _ (c .if4 .taken)))

@@ -3,7 +3,7 @@ use borrow.Author.Needs.{needs}
 use Prim.Native.Nat.{_≤_, _-_}
 use mathlib.Core.Path.{_≡_, _∙_}
 use native.Mathlib.Omega.{arith}
-use Rattle.window.proofs.Ranges.{setup-facts, home-small}
+use Rattle.rules.proofs.Soundness.{in-range-facts, home-below}
 use Rattle.startup.proofs.SetupLaws.{firstTo, first-none, first-written, first-all}
 use Rattle.startup.proofs.first_destinations.Statement.{statement}
 use Rattle.startup.proofs.first_destinations.Tie as tie
@@ -18,7 +18,7 @@ zero-destination-requires : tie.Need-zero-destination-requires Inv-loop μ-loop
 zero-destination-requires c κs = search needs
 
 loop-holds : tie.Need-loop-holds Inv-loop μ-loop
-loop-holds c = (first-none _ _ (c .zero-destination .ensures), omega arith, setup-facts _ (c .before .pre) .destinations-high)
+loop-holds c = (first-none _ _ (c .zero-destination .ensures), omega arith, in-range-facts _ (c .before .pre) .destinations .1)
 
 mul-t : tie.Need-mul-t Inv-loop μ-loop
 mul-t c = omega arith
@@ -27,10 +27,10 @@ element-copy-out-t : tie.Need-element-copy-out-t Inv-loop μ-loop
 element-copy-out-t c = omega arith
 
 mul-g : tie.Need-mul-g Inv-loop μ-loop
-mul-g c = omega (arith, home-small _ (c .before .before .before .before .pre) _ (c .before .loop-test .taken))
+mul-g c = omega (arith, home-below _ (c .before .before .before .before .pre) _ (c .before .loop-test .taken))
 
 element-copy-out-g : tie.Need-element-copy-out-g Inv-loop μ-loop
-element-copy-out-g c = home-small _ (c .before .before .before .before .pre) _ (c .before .loop-test .taken)
+element-copy-out-g c = home-below _ (c .before .before .before .before .pre) _ (c .before .loop-test .taken)
 
 first-state-requires : tie.Need-first-state-requires Inv-loop μ-loop
 first-state-requires c κs = search needs

@@ -1,7 +1,7 @@
 -- By the two cases of the health; only a live one has a window to divide by. Assumes nothing.
 use borrow.Author.Needs.{needs}
 use native.Mathlib.Omega.{arith}
-use Rattle.window.proofs.Ranges.{sums-facts}
+use Rattle.rules.proofs.Soundness.{sums-fit-facts}
 use Rattle.window.proofs.WindowLaws.{live-fits, cohorts-sum}
 use Rattle.window.proofs.Cases.{failure-live, failure-dead}
 use Rattle.window.proofs.after_failure.Statement.{statement}
@@ -11,7 +11,7 @@ enum-known-h : tie.Need-enum-known-h
 enum-known-h c = search needs
 
 cohort-share-requires : tie.Need-cohort-share-requires
-cohort-share-requires c κs = sums-facts _ _ (live-fits _ _ _ (c .before .h .given .1) (c .before .before .before .pre .1)) .window-low
+cohort-share-requires c κs = sums-fit-facts _ _ (live-fits _ _ _ (c .before .h .given .1) (c .before .before .before .pre .1)) .window .0
 
 add-cohorts : tie.Need-add-cohorts
 add-cohorts c = omega (arith, cohorts-sum _ _ (c .before .before .before .before .before .pre .0) (live-fits _ _ _ (c .before .before .before .h .given .1) (c .before .before .before .before .before .pre .1)) _ (c .before .cohort-share .ensures))

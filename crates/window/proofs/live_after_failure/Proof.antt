@@ -1,16 +1,16 @@
 -- Dead past the cohort limit; else the sums fall. Assumes nothing.
 use native.Mathlib.Omega.{arith}
-use Rattle.window.proofs.Ranges.{windows}
+use Rattle.rules.proofs.WindowLaws.{windows-range}
 use Rattle.window.proofs.WindowLaws.{negative-asks, lowered-asks}
 use Rattle.window.proofs.Cases.{failure-kills, failure-spares}
 use Rattle.window.proofs.live_after_failure.Statement.{statement}
 use Rattle.window.proofs.live_after_failure.Tie as tie
 
 mul-if1 : tie.Need-mul-if1
-mul-if1 c = omega (arith, windows _ (c .before .pre .0))
+mul-if1 c = omega (arith, windows-range _ (c .before .pre .0))
 
 add-t9 : tie.Need-add-t9
-add-t9 c = omega (arith, windows _ (c .before .before .before .pre .0))
+add-t9 c = omega (arith, windows-range _ (c .before .before .before .pre .0))
 
 returns : tie.Need-returns
 returns c = failure-kills _ _ _ _ (c .before .if1 .taken)

@@ -1,13 +1,13 @@
 -- Success grows only where the window is below busy and initial together. Assumes nothing.
 use native.Mathlib.Omega.{arith}
-use Rattle.window.proofs.Ranges.{windows}
+use Rattle.rules.proofs.WindowLaws.{windows-range}
 use Rattle.window.proofs.WindowLaws.{positive-asks, success-sum}
 use Rattle.window.proofs.Cases.{success-grows, success-stays}
 use Rattle.window.proofs.live_after_success.Statement.{statement}
 use Rattle.window.proofs.live_after_success.Tie as tie
 
 add-if1 : tie.Need-add-if1
-add-if1 c = omega (arith, windows _ (c .before .pre .0))
+add-if1 c = omega (arith, windows-range _ (c .before .pre .0))
 
 feedback-requires : tie.Need-feedback-requires
 feedback-requires c κs = positive-asks _ _ (c .before .before .before .before .pre .0) (c .before .before .before .before .pre .1)

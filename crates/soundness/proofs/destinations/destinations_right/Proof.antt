@@ -9,7 +9,8 @@ use Rattle.laws.proofs.All.{all-false-of}
 use Rattle.rules.specs.State.{at}
 use Rattle.soundness.specs.Columns.{destinationTest}
 use Rattle.soundness.proofs.Laws.{all-none, all-more}
-use Rattle.soundness.proofs.Ranges.{destinations-few, home-few, cohorts-few}
+use Rattle.rules.proofs.Soundness.{home-below}
+use Rattle.soundness.proofs.Ranges.{destinations-few, cohorts-few}
 use Rattle.soundness.proofs.destinations.destinations_right.Statement.{statement}
 use Rattle.soundness.proofs.destinations.destinations_right.Tie as tie
 
@@ -35,10 +36,10 @@ element-copy-out-t : tie.Need-element-copy-out-t Inv-loop μ-loop
 element-copy-out-t c = omega (arith, destinations-few _ (c .before .before .before .pre))
 
 mul-g : tie.Need-mul-g Inv-loop μ-loop
-mul-g c = omega (arith, home-few _ (c .before .before .before .before .pre) (c .before .before .before .loop .d) (omega arith))
+mul-g c = omega (arith, home-below _ (c .before .before .before .before .pre) (c .before .before .before .loop .d) (omega arith))
 
 element-copy-out-g : tie.Need-element-copy-out-g Inv-loop μ-loop
-element-copy-out-g c = omega (arith, home-few _ (c .before .before .before .before .pre) (c .before .before .before .loop .d) (omega arith))
+element-copy-out-g c = omega (arith, home-below _ (c .before .before .before .before .pre) (c .before .before .before .loop .d) (omega arith))
 
 mul-health-right : tie.Need-mul-health-right Inv-loop μ-loop
 mul-health-right c = omega (arith, destinations-few _ (c .before .before .before .before .before .pre))
