@@ -4,6 +4,7 @@ use rules::Health;
 ghost use mathlib.Core.Path.{_≡_};
 ghost use Prim.Native.Nat.{_≤_};
 ghost use lib.ListN.{length};
+ghost use mathlib.Core.List.{_++_};
 ghost use Rattle.rules.specs.Board.{decimal, clockLine, healthText, destinationLine};
 ghost use Rattle.board.specs.Text.{liveText, deadText};
 ghost use Rattle.rules.specs.Board.{textOf};
@@ -49,13 +50,22 @@ fn decimal_length(x: u64) -> usize
     n
 }
 
+// Puts a word there, and a number's decimals behind it.
+fn put_number(word: &[u8], x: u64, buf: &mut [u8]) -> usize
+    requires { ⌜ length (now word ++ decimal x) ≤ length (now buf) ⌝ }
+    ensures { λ r. ⌜ Wrote (now (word .entry) ++ decimal x) (now (buf .entry)) (now (buf .exit)) r ⌝ }
+{
+    let mut at = put(word, buf);
+    at += put_decimal(x, &mut buf[at..]);
+    at
+}
+
 // The first line: AT and the clock.
 fn put_clock(clock: u32, buf: &mut [u8]) -> usize
     requires { ⌜ length (clockLine clock) ≤ length (now buf) ⌝ }
     ensures { λ r. ⌜ Wrote (clockLine clock) (now (buf .entry)) (now (buf .exit)) r ⌝ }
 {
-    let mut at = put(b"AT ", buf);
-    at += put_decimal(clock as u64, &mut buf[at..]);
+    let mut at = put_number(b"AT ", clock as u64, buf);
     at += put(b"\n", &mut buf[at..]);
     at
 }
@@ -64,10 +74,8 @@ fn put_live(window: u64, busy: u16, buf: &mut [u8]) -> usize
     requires { ⌜ length (liveText window busy) ≤ length (now buf) ⌝ }
     ensures { λ r. ⌜ Wrote (liveText window busy) (now (buf .entry)) (now (buf .exit)) r ⌝ }
 {
-    let mut at = put(b" LIVE ", buf);
-    at += put_decimal(window, &mut buf[at..]);
-    at += put(b" ", &mut buf[at..]);
-    at += put_decimal(busy as u64, &mut buf[at..]);
+    let mut at = put_number(b" LIVE ", window, buf);
+    at += put_number(b" ", busy as u64, &mut buf[at..]);
     at
 }
 
@@ -75,9 +83,7 @@ fn put_dead(end: u64, buf: &mut [u8]) -> usize
     requires { ⌜ length (deadText end) ≤ length (now buf) ⌝ }
     ensures { λ r. ⌜ Wrote (deadText end) (now (buf .entry)) (now (buf .exit)) r ⌝ }
 {
-    let mut at = put(b" DEAD ", buf);
-    at += put_decimal(end, &mut buf[at..]);
-    at
+    put_number(b" DEAD ", end, buf)
 }
 
 // LIVE with window and busy, or DEAD with the end second.
@@ -96,8 +102,7 @@ fn put_line(d: u64, h: Health, busy: u16, buf: &mut [u8]) -> usize
     requires { ⌜ length (destinationLine d h busy) ≤ length (now buf) ⌝ }
     ensures { λ r. ⌜ Wrote (destinationLine d h busy) (now (buf .entry)) (now (buf .exit)) r ⌝ }
 {
-    let mut at = put(b"D ", buf);
-    at += put_decimal(d, &mut buf[at..]);
+    let mut at = put_number(b"D ", d, buf);
     at += put_health(h, busy, &mut buf[at..]);
     at += put(b"\n", &mut buf[at..]);
     at

@@ -1,4 +1,4 @@
--- AT, the clock and the end of the line are put one behind the other. Assumes nothing.
+-- AT with the clock, and the end of the line, are put one behind the other. Assumes nothing.
 use borrow.Author.Needs.{needs}
 use mathlib.Core.List.{_++_}
 use Prim.Native.Nat.{_≤_}
@@ -9,78 +9,55 @@ use Rattle.board.proofs.Writing.{behind, start-fits, rest-fits, end-fit
 use Rattle.board.proofs.put_clock.Statement.{statement}
 use Rattle.board.proofs.put_clock.Tie as tie
 
--- the buffer has room for the first parts too
-second : (c : tie.Start) → length (atWord ++ decimal (c .args .clock)) ≤ length (c .args .buf .now)
+-- the buffer has room for the first part too
+first : (c : tie.Start) → length (atWord ++ decimal (c .args .clock)) ≤ length (c .args .buf .now)
 unfolding clockLine
-second c = front-fits (atWord ++ decimal (c .args .clock)) lineEnd (c .pre)
+first c = front-fits (atWord ++ decimal (c .args .clock)) lineEnd (c .pre)
 
-first : (c : tie.Start) → length atWord ≤ length (c .args .buf .now)
-first c = front-fits atWord (decimal (c .args .clock)) (second c)
+slice-aggregate-put-number : tie.Need-slice-aggregate-put-number
+slice-aggregate-put-number c = search needs
+
+put-number-requires : tie.Need-put-number-requires
+put-number-requires c κs = first (c .before .before .before)
 
 slice-aggregate-put : tie.Need-slice-aggregate-put
 slice-aggregate-put c = search needs
 
-put-requires : tie.Need-put-requires
-put-requires c κs = first (c .before .before .before)
-
-sub-put-decimal : tie.Need-sub-put-decimal
-sub-put-decimal c = start-fits (c .before .before .put .ensures) (first (c .before .before .before .before .before .before))
-
-part-put-decimal-start : tie.Need-part-put-decimal-start
-part-put-decimal-start c = start-fits (c .before .before .put .ensures) (first (c .before .before .before .before .before .before))
-
-part-put-decimal-end : tie.Need-part-put-decimal-end
-part-put-decimal-end c = search needs
-
-put-decimal-requires : tie.Need-put-decimal-requires
-put-decimal-requires c κs = rest-fits (c .before .before .before .put .ensures) (decimal _) (second (c .before .before .before .before .before .before .before))
-
-add-at : tie.Need-add-at
-add-at c = omega (arith, end-fits (c .before .before .before .before .before .before .put .ensures) (c .before .before .put-decimal .ensures) (second (c .before .before .before .before .before .before .before .before .before .before)), c .before .before .before .before .before .before .before .before .before .before .good)
-
-slice-aggregate-put-2 : tie.Need-slice-aggregate-put-2
-slice-aggregate-put-2 c = search needs
-
 sub-put : tie.Need-sub-put
-sub-put c = start-fits (behind (c .before .before .before .before .before .before .before .put .ensures) (c .before .before .before .put-decimal .ensures)) (second (c .before .before .before .before .before .before .before .before .before .before .before))
+sub-put c = start-fits (c .before .before .before .put-number .ensures) (first (c .before .before .before .before .before .before .before))
 
 part-put-start : tie.Need-part-put-start
-part-put-start c = start-fits (behind (c .before .before .before .before .before .before .before .put .ensures) (c .before .before .before .put-decimal .ensures)) (second (c .before .before .before .before .before .before .before .before .before .before .before))
+part-put-start c = start-fits (c .before .before .before .put-number .ensures) (first (c .before .before .before .before .before .before .before))
 
 part-put-end : tie.Need-part-put-end
 part-put-end c = search needs
 
-put-requires-2 : tie.Need-put-requires-2
+put-requires : tie.Need-put-requires
 unfolding clockLine
-put-requires-2 c κs = rest-fits (behind (c .before .before .before .before .before .before .before .before .put .ensures) (c .before .before .before .before .put-decimal .ensures)) lineEnd (c .before .before .before .before .before .before .before .before .before .before .before .before .pre)
+put-requires c κs = rest-fits (c .before .before .before .before .put-number .ensures) lineEnd (c .before .before .before .before .before .before .before .before .pre)
 
-add-at-2 : tie.Need-add-at-2
+add-at : tie.Need-add-at
 unfolding clockLine
-add-at-2 c = omega (arith, end-fits (behind (c .before .before .before .before .before .before .before .before .before .before .before .put .ensures) (c .before .before .before .before .before .before .before .put-decimal .ensures)) (c .before .before .put2 .ensures) (c .before .before .before .before .before .before .before .before .before .before .before .before .before .before .before .pre), c .before .before .before .before .before .before .before .before .before .before .before .before .before .before .before .good)
+add-at c = omega (arith, end-fits (c .before .before .before .before .before .before .before .put-number .ensures) (c .before .before .put .ensures) (c .before .before .before .before .before .before .before .before .before .before .before .pre), c .before .before .before .before .before .before .before .before .before .before .before .good)
 
 same-length : tie.Need-same-length
 same-length c = search needs
 
 returns : tie.Need-returns
 unfolding clockLine
-returns c = behind (behind (c .before .before .before .before .before .before .before .before .before .before .before .put .ensures) (c .before .before .before .before .before .before .before .put-decimal .ensures)) (c .before .before .put2 .ensures)
+returns c = behind (c .before .before .before .before .before .before .before .put-number .ensures) (c .before .before .put .ensures)
 
 pub put-clock-spec : {M : Type 1} → statement M
 put-clock-spec =
     tie.close
     (tie.spec
+    slice-aggregate-put-number
+    put-number-requires
     slice-aggregate-put
-    put-requires
-    sub-put-decimal
-    part-put-decimal-start
-    part-put-decimal-end
-    put-decimal-requires
-    add-at
-    slice-aggregate-put-2
     sub-put
     part-put-start
     part-put-end
-    put-requires-2
-    add-at-2
+    put-requires
+    add-at
     same-length
     returns)

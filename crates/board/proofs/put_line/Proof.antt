@@ -10,100 +10,77 @@ use Rattle.board.proofs.put_line.Statement.{statement}
 use Rattle.board.proofs.put_line.Tie as tie
 
 -- the buffer has room for the first parts too
-third : (c : tie.Start) → length (lineWord ++ decimal (c .args .d) ++ healthText (c .args .h) (c .args .busy)) ≤ length (c .args .buf .now)
+second : (c : tie.Start) → length (lineWord ++ decimal (c .args .d) ++ healthText (c .args .h) (c .args .busy)) ≤ length (c .args .buf .now)
 unfolding destinationLine
-third c = front-fits (lineWord ++ decimal (c .args .d) ++ healthText (c .args .h) (c .args .busy)) lineEnd (c .pre)
+second c = front-fits (lineWord ++ decimal (c .args .d) ++ healthText (c .args .h) (c .args .busy)) lineEnd (c .pre)
 
-second : (c : tie.Start) → length (lineWord ++ decimal (c .args .d)) ≤ length (c .args .buf .now)
-second c = front-fits (lineWord ++ decimal (c .args .d)) (healthText (c .args .h) (c .args .busy)) (third c)
+first : (c : tie.Start) → length (lineWord ++ decimal (c .args .d)) ≤ length (c .args .buf .now)
+first c = front-fits (lineWord ++ decimal (c .args .d)) (healthText (c .args .h) (c .args .busy)) (second c)
 
-first : (c : tie.Start) → length lineWord ≤ length (c .args .buf .now)
-first c = front-fits lineWord (decimal (c .args .d)) (second c)
+slice-aggregate-put-number : tie.Need-slice-aggregate-put-number
+slice-aggregate-put-number c = search needs
 
-slice-aggregate-put : tie.Need-slice-aggregate-put
-slice-aggregate-put c = search needs
-
-put-requires : tie.Need-put-requires
-put-requires c κs = first (c .before .before .before)
-
-sub-put-decimal : tie.Need-sub-put-decimal
-sub-put-decimal c = start-fits (c .before .before .put .ensures) (first (c .before .before .before .before .before .before))
-
-part-put-decimal-start : tie.Need-part-put-decimal-start
-part-put-decimal-start c = start-fits (c .before .before .put .ensures) (first (c .before .before .before .before .before .before))
-
-part-put-decimal-end : tie.Need-part-put-decimal-end
-part-put-decimal-end c = search needs
-
-put-decimal-requires : tie.Need-put-decimal-requires
-put-decimal-requires c κs = rest-fits (c .before .before .before .put .ensures) (decimal _) (second (c .before .before .before .before .before .before .before))
-
-add-at : tie.Need-add-at
-add-at c = omega (arith, end-fits (c .before .before .before .before .before .before .put .ensures) (c .before .before .put-decimal .ensures) (second (c .before .before .before .before .before .before .before .before .before .before)), c .before .before .before .before .before .before .before .before .before .before .good)
+put-number-requires : tie.Need-put-number-requires
+put-number-requires c κs = first (c .before .before .before)
 
 sub-put-health : tie.Need-sub-put-health
-sub-put-health c = start-fits (behind (c .before .before .before .before .before .before .put .ensures) (c .before .before .put-decimal .ensures)) (second (c .before .before .before .before .before .before .before .before .before .before))
+sub-put-health c = start-fits (c .before .before .put-number .ensures) (first (c .before .before .before .before .before .before))
 
 part-put-health-start : tie.Need-part-put-health-start
-part-put-health-start c = start-fits (behind (c .before .before .before .before .before .before .put .ensures) (c .before .before .put-decimal .ensures)) (second (c .before .before .before .before .before .before .before .before .before .before))
+part-put-health-start c = start-fits (c .before .before .put-number .ensures) (first (c .before .before .before .before .before .before))
 
 part-put-health-end : tie.Need-part-put-health-end
 part-put-health-end c = search needs
 
 put-health-requires : tie.Need-put-health-requires
-put-health-requires c κs = rest-fits (behind (c .before .before .before .before .before .before .before .put .ensures) (c .before .before .before .put-decimal .ensures)) (healthText _ _) (third (c .before .before .before .before .before .before .before .before .before .before .before))
+put-health-requires c κs = rest-fits (c .before .before .before .put-number .ensures) (healthText _ _) (second (c .before .before .before .before .before .before .before))
 
-add-at-2 : tie.Need-add-at-2
-add-at-2 c = omega (arith, end-fits (behind (c .before .before .before .before .before .before .before .before .before .before .put .ensures) (c .before .before .before .before .before .before .put-decimal .ensures)) (c .before .before .put-health .ensures) (third (c .before .before .before .before .before .before .before .before .before .before .before .before .before .before)), c .before .before .before .before .before .before .before .before .before .before .before .before .before .before .good)
+add-at : tie.Need-add-at
+add-at c = omega (arith, end-fits (c .before .before .before .before .before .before .put-number .ensures) (c .before .before .put-health .ensures) (second (c .before .before .before .before .before .before .before .before .before .before)), c .before .before .before .before .before .before .before .before .before .before .good)
 
-slice-aggregate-put-2 : tie.Need-slice-aggregate-put-2
-slice-aggregate-put-2 c = search needs
+slice-aggregate-put : tie.Need-slice-aggregate-put
+slice-aggregate-put c = search needs
 
 sub-put : tie.Need-sub-put
-sub-put c = start-fits (behind (behind (c .before .before .before .before .before .before .before .before .before .before .before .put .ensures) (c .before .before .before .before .before .before .before .put-decimal .ensures)) (c .before .before .before .put-health .ensures)) (third (c .before .before .before .before .before .before .before .before .before .before .before .before .before .before .before))
+sub-put c = start-fits (behind (c .before .before .before .before .before .before .before .put-number .ensures) (c .before .before .before .put-health .ensures)) (second (c .before .before .before .before .before .before .before .before .before .before .before))
 
 part-put-start : tie.Need-part-put-start
-part-put-start c = start-fits (behind (behind (c .before .before .before .before .before .before .before .before .before .before .before .put .ensures) (c .before .before .before .before .before .before .before .put-decimal .ensures)) (c .before .before .before .put-health .ensures)) (third (c .before .before .before .before .before .before .before .before .before .before .before .before .before .before .before))
+part-put-start c = start-fits (behind (c .before .before .before .before .before .before .before .put-number .ensures) (c .before .before .before .put-health .ensures)) (second (c .before .before .before .before .before .before .before .before .before .before .before))
 
 part-put-end : tie.Need-part-put-end
 part-put-end c = search needs
 
-put-requires-2 : tie.Need-put-requires-2
+put-requires : tie.Need-put-requires
 unfolding destinationLine
-put-requires-2 c κs = rest-fits (behind (behind (c .before .before .before .before .before .before .before .before .before .before .before .before .put .ensures) (c .before .before .before .before .before .before .before .before .put-decimal .ensures)) (c .before .before .before .before .put-health .ensures)) lineEnd (c .before .before .before .before .before .before .before .before .before .before .before .before .before .before .before .before .pre)
+put-requires c κs = rest-fits (behind (c .before .before .before .before .before .before .before .before .put-number .ensures) (c .before .before .before .before .put-health .ensures)) lineEnd (c .before .before .before .before .before .before .before .before .before .before .before .before .pre)
 
-add-at-3 : tie.Need-add-at-3
+add-at-2 : tie.Need-add-at-2
 unfolding destinationLine
-add-at-3 c = omega (arith, end-fits (behind (behind (c .before .before .before .before .before .before .before .before .before .before .before .before .before .before .before .put .ensures) (c .before .before .before .before .before .before .before .before .before .before .before .put-decimal .ensures)) (c .before .before .before .before .before .before .before .put-health .ensures)) (c .before .before .put2 .ensures) (c .before .before .before .before .before .before .before .before .before .before .before .before .before .before .before .before .before .before .before .pre), c .before .before .before .before .before .before .before .before .before .before .before .before .before .before .before .before .before .before .before .good)
+add-at-2 c = omega (arith, end-fits (behind (c .before .before .before .before .before .before .before .before .before .before .before .put-number .ensures) (c .before .before .before .before .before .before .before .put-health .ensures)) (c .before .before .put .ensures) (c .before .before .before .before .before .before .before .before .before .before .before .before .before .before .before .pre), c .before .before .before .before .before .before .before .before .before .before .before .before .before .before .before .good)
 
 same-length : tie.Need-same-length
 same-length c = search needs
 
 returns : tie.Need-returns
 unfolding destinationLine
-returns c = behind (behind (behind (c .before .before .before .before .before .before .before .before .before .before .before .before .before .before .before .put .ensures) (c .before .before .before .before .before .before .before .before .before .before .before .put-decimal .ensures)) (c .before .before .before .before .before .before .before .put-health .ensures)) (c .before .before .put2 .ensures)
+returns c = behind (behind (c .before .before .before .before .before .before .before .before .before .before .before .put-number .ensures) (c .before .before .before .before .before .before .before .put-health .ensures)) (c .before .before .put .ensures)
 
 pub put-line-spec : {M : Type 1} → statement M
 put-line-spec =
     tie.close
     (tie.spec
-    slice-aggregate-put
-    put-requires
-    sub-put-decimal
-    part-put-decimal-start
-    part-put-decimal-end
-    put-decimal-requires
-    add-at
+    slice-aggregate-put-number
+    put-number-requires
     sub-put-health
     part-put-health-start
     part-put-health-end
     put-health-requires
-    add-at-2
-    slice-aggregate-put-2
+    add-at
+    slice-aggregate-put
     sub-put
     part-put-start
     part-put-end
-    put-requires-2
-    add-at-3
+    put-requires
+    add-at-2
     same-length
     returns)

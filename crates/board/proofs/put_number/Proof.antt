@@ -1,19 +1,16 @@
--- DEAD and the end second are put one behind the other. Assumes nothing.
+-- The word and the decimals are put one behind the other. Assumes nothing.
 use borrow.Author.Needs.{needs}
 use Prim.Native.Nat.{_≤_}
 use native.Mathlib.Omega.{arith}
 use lib.ListN.{length}
-use Rattle.rules.specs.Board.{decimal, deadWord}
+use Rattle.rules.specs.Board.{decimal}
 use Rattle.board.proofs.Writing.{behind, start-fits, rest-fits, end-fits, front-fits}
-use Rattle.board.proofs.put_dead.Statement.{statement}
-use Rattle.board.proofs.put_dead.Tie as tie
+use Rattle.board.proofs.put_number.Statement.{statement}
+use Rattle.board.proofs.put_number.Tie as tie
 
--- the buffer has room for the first parts too
-first : (c : tie.Start) → length deadWord ≤ length (c .args .buf .now)
-first c = front-fits deadWord (decimal (c .args .end)) (c .pre)
-
-slice-aggregate-put : tie.Need-slice-aggregate-put
-slice-aggregate-put c = search needs
+-- the buffer has room for the word too
+first : (c : tie.Start) → length (c .args .word .now) ≤ length (c .args .buf .now)
+first c = front-fits (c .args .word .now) (decimal (c .args .x)) (c .pre)
 
 put-requires : tie.Need-put-requires
 put-requires c κs = first (c .before .before .before)
@@ -39,11 +36,10 @@ same-length c = search needs
 returns : tie.Need-returns
 returns c = behind (c .before .before .before .before .before .before .put .ensures) (c .before .before .put-decimal .ensures)
 
-pub put-dead-spec : {M : Type 1} → statement M
-put-dead-spec =
+pub put-number-spec : {M : Type 1} → statement M
+put-number-spec =
     tie.close
     (tie.spec
-    slice-aggregate-put
     put-requires
     sub-put-decimal
     part-put-decimal-start
