@@ -2,6 +2,7 @@ pub mod CallLaws
 pub mod LayoutLaws
 pub mod KindLaws
 pub mod RowLaws
+pub mod ReadingLaws
 pub mod RunLaws
 pub mod Transcript
 pub mod RunAll
