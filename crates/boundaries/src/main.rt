@@ -18,6 +18,7 @@
 mod change;
 mod lent;
 
+ghost use mathlib.Core.Path.{_≡_};
 ghost use Prim.Native.Nat.{_≤_};
 ghost use lib.ListN.{length};
 use libc::STDIN_FILENO;
@@ -90,7 +91,9 @@ fn step(
             kept: kept,
         };
     }
-    let r = case(line, words, list, written, out, s);
+    let c = read_repeat(line);
+    let start = c.start;
+    let r = times(c.count, &line[start..], words, list, written, out, s);
     write_answer(out, r.length);
     let next = r.state;
     Desk {
@@ -109,27 +112,40 @@ fn write_answer(out: &[u8], n: usize) {
     answer::write(out, n);
 }
 
-fn case(
-    line: &[u8],
-    words: &mut [u64],
-    list: &mut [u16],
-    written: &mut [u8],
-    out: &mut [u8],
-    s: State,
-) -> Reply {
-    if line.len() == 0 {
-        return calls::left(s, 0);
+// How many times a line's call is made, and where the call begins.
+struct Repeat {
+    count: u64,
+    start: usize,
+}
+
+fn read_repeat(line: &[u8]) -> Repeat
+    ensures { λ r. ⌜ r .start ≤ length (now (line .entry)) ⌝ }
+{
+    let n = line.len();
+    if n == 0 {
+        return from_front(0);
     }
     if line[0] == 35 {
-        return calls::left(s, 0);
+        return from_front(0);
     }
-    let n = line.len();
     let end = text::find(line, 0, n, 32);
     let Number::Is(count) = text::read_number(&line[..end]) else {
-        return once(line, words, list, written, out, s);
+        return from_front(1);
     };
     let start = text::skip_blanks(line, end);
-    times(count, &line[start..], words, list, written, out, s)
+    Repeat {
+        count: count,
+        start: start,
+    }
+}
+
+fn from_front(count: u64) -> Repeat
+    ensures { λ r. ⌜ r .start ≡ 0 ⌝ }
+{
+    Repeat {
+        count: count,
+        start: 0,
+    }
 }
 
 fn times(
@@ -160,27 +176,35 @@ fn once(
 ) -> Reply {
     let n = line.len();
     let end = text::find(line, 0, n, 32);
-    let kind = change_kind(&line[..end]);
-    if kind != 0 {
+    let kind = kind_of(&line[..end]);
+    if 3 < kind {
         return changing(kind, &line[end..], words, out, s);
     }
     let got = text::read_numbers(line, end, words);
     let k = got.count;
-    if !got.whole {
+    if !fits(got.whole, kind, k) {
         let m = answer::malformed(out);
         return calls::left(s, m);
     }
-    if k == 2 {
+    if kind != 0 {
         let a = calls::word(words, 0);
         let b = calls::word(words, 1);
-        return looking(&line[..end], a, b, list, written, out, s);
+        return looking(kind, a, b, list, written, out, s);
     }
     calling(&line[..end], k, words, list, written, out, s)
 }
 
-// The lines of two numbers.
+// Whether all words were numbers, and two where something is looked at.
+fn fits(whole: bool, kind: u8, k: usize) -> bool {
+    if kind == 0 {
+        return whole;
+    }
+    whole & (k == 2)
+}
+
+// What is behind the names 1 to 3.
 fn looking(
-    name: &[u8],
+    kind: u8,
     a: u64,
     b: u64,
     list: &mut [u16],
@@ -188,19 +212,15 @@ fn looking(
     out: &mut [u8],
     s: State,
 ) -> Reply {
-    if text::same(name, b"list") {
+    if kind == 1 {
         let n = lent::put_places(out, list, a, b);
         return calls::left(s, n);
     }
-    if text::same(name, b"text") {
+    if kind == 2 {
         let n = lent::put_bytes(out, written, a, b);
         return calls::left(s, n);
     }
-    if text::same(name, b"sequence") {
-        return sequence(a, b, list, out, s);
-    }
-    let n = answer::malformed(out);
-    calls::left(s, n)
+    sequence(a, b, list, out, s)
 }
 
 // One of the six calls, with the first k words.
@@ -220,16 +240,25 @@ fn calling(
     calls::call(name, &words[..m], list, written, out, s)
 }
 
-// 1 for set, 2 for broken, 3 for range, 0 for any other name.
-fn change_kind(name: &[u8]) -> u8 {
-    if text::same(name, b"set") {
+// A number for each name that is no call's: what looks at something, then what changes something. 0 for any other.
+fn kind_of(name: &[u8]) -> u8 {
+    if text::same(name, b"list") {
         return 1;
     }
-    if text::same(name, b"broken") {
+    if text::same(name, b"text") {
         return 2;
     }
-    if text::same(name, b"range") {
+    if text::same(name, b"sequence") {
         return 3;
+    }
+    if text::same(name, b"set") {
+        return 4;
+    }
+    if text::same(name, b"broken") {
+        return 5;
+    }
+    if text::same(name, b"range") {
+        return 6;
     }
     0
 }
@@ -254,10 +283,10 @@ fn changing(kind: u8, rest: &[u8], words: &mut [u64], out: &mut [u8], s: State) 
 }
 
 fn after_change(kind: u8, out: &mut [u8], s: State, next: State) -> Reply {
-    if kind == 1 {
+    if kind == 4 {
         return calls::left(next, 0);
     }
-    if kind == 2 {
+    if kind == 5 {
         let a = scheduler::ask(next, 0);
         let n = answer::ask(out, a);
         return calls::left(s, n);

@@ -74,25 +74,49 @@ pub fn call(
     out: &mut [u8],
     s: State,
 ) -> Reply {
-    if text::same(name, b"setup") {
+    let kind = kind_of(name);
+    if kind == 1 {
         return set_up(words, out, s);
     }
-    if text::same(name, b"job") {
+    if kind == 2 {
         return take_job(words, list, out, s);
     }
-    if text::same(name, b"pick") {
+    if kind == 3 {
         return pick(words, out, s);
     }
-    if text::same(name, b"report") {
+    if kind == 4 {
         return report(words, list, out, s);
     }
-    if text::same(name, b"ask") {
+    if kind == 5 {
         return ask(words, out, s);
     }
-    if text::same(name, b"board") {
+    if kind == 6 {
         return board(words, written, out, s);
     }
     malformed(out, s)
+}
+
+// 1 to 6 for the six calls, 0 for another name.
+fn kind_of(name: &[u8]) -> u8 {
+    if text::same(name, b"setup") {
+        return 1;
+    }
+    if text::same(name, b"job") {
+        return 2;
+    }
+    if text::same(name, b"pick") {
+        return 3;
+    }
+    if text::same(name, b"report") {
+        return 4;
+    }
+    if text::same(name, b"ask") {
+        return 5;
+    }
+    if text::same(name, b"board") {
+        return 6;
+    }
+    0
 }
 
 // The number at a place; 0 past the end.
@@ -149,48 +173,56 @@ fn settings(words: &[u64], t: u64, i: u32) -> Settings {
     }
 }
 
-// The first 32 numbers from a place on.
+// The first 32 numbers behind a place.
 fn homes(words: &[u64], at: u32) -> [u64; 32] {
     let mut home = [0u64; 32];
     let mut j: usize = 0;
     while j < 32 {
-        home[j] = word(words, (at as usize) + j);
+        home[j] = word(words, (at as usize) + 1 + j);
         j += 1;
     }
     home
 }
 
 fn set_up(words: &[u64], out: &mut [u8], s: State) -> Reply {
+    let at = count_place(words);
+    if at == 0 {
+        return malformed(out, s);
+    }
+    let u = setup_of(words, at);
+    start(u, out)
+}
+
+// The place of a set-up's number of destinations; 0 where the numbers are not as many as it announces.
+fn count_place(words: &[u64]) -> u32 {
     let k = words.len();
     let t = word(words, 0);
     // a line has no room for more
     if 2520 < t {
-        return malformed(out, s);
+        return 0;
     }
     let at = 1 + 13 * t;
-    let d = word(words, at as usize);
     if (k as u64) <= at {
-        return malformed(out, s);
+        return 0;
     }
-    if d != (k as u64) - at - 1 {
-        return malformed(out, s);
+    if word(words, at as usize) != (k as u64) - at - 1 {
+        return 0;
     }
-    start(setup_of(words), out)
+    at as u32
 }
 
-// The set-up of these numbers: what is not there counts as 0, and what would be too far behind for a line as not there.
-pub fn setup_of(words: &[u64]) -> Setup {
+fn setup_of(words: &[u64], at: u32) -> Setup {
     let t = word(words, 0);
-    let at = 1 + 13 * text::at_most(t, 2520);
     let a = settings(words, t, 0);
     let b = settings(words, t, 1);
     let c = settings(words, t, 2);
     let e = settings(words, t, 3);
+    let home = homes(words, at);
     Setup {
         transports: t,
         settings: [a, b, c, e],
-        destinations: word(words, at),
-        home: homes(words, (at + 1) as u32),
+        destinations: word(words, at as usize),
+        home: home,
     }
 }
 

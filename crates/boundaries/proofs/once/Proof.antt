@@ -9,11 +9,11 @@ use Rattle.boundaries.proofs.once.Tie as tie
 find-requires : tie.Need-find-requires
 find-requires c κs = search needs
 
-slice-aggregate-change-kind : tie.Need-slice-aggregate-change-kind
-slice-aggregate-change-kind c = sym (length-take-le _ _ (omega arith))
+slice-aggregate-kind-of : tie.Need-slice-aggregate-kind-of
+slice-aggregate-kind-of c = sym (length-take-le _ _ (omega arith))
 
-change-kind-requires : tie.Need-change-kind-requires
-change-kind-requires c κs = search needs
+kind-of-requires : tie.Need-kind-of-requires
+kind-of-requires c κs = search needs
 
 sub-changing : tie.Need-sub-changing
 sub-changing c = search needs
@@ -39,6 +39,9 @@ returns c = search needs
 read-numbers-requires : tie.Need-read-numbers-requires
 read-numbers-requires c κs = search needs
 
+fits-requires : tie.Need-fits-requires
+fits-requires c κs = search needs
+
 malformed-requires : tie.Need-malformed-requires
 malformed-requires c κs = search needs
 
@@ -59,9 +62,6 @@ word-requires c κs = search needs
 
 word-requires-2 : tie.Need-word-requires-2
 word-requires-2 c κs = search needs
-
-slice-aggregate-looking : tie.Need-slice-aggregate-looking
-slice-aggregate-looking c = sym (length-take-le _ _ (omega arith))
 
 looking-requires : tie.Need-looking-requires
 looking-requires c κs = search needs
@@ -107,8 +107,8 @@ once-spec =
     tie.close
     (tie.spec
     find-requires
-    slice-aggregate-change-kind
-    change-kind-requires
+    slice-aggregate-kind-of
+    kind-of-requires
     sub-changing
     part-changing-start
     part-changing-end
@@ -117,6 +117,7 @@ once-spec =
     same-length-2
     returns
     read-numbers-requires
+    fits-requires
     malformed-requires
     left-requires
     same-length-3
@@ -124,7 +125,6 @@ once-spec =
     returns-2
     word-requires
     word-requires-2
-    slice-aggregate-looking
     looking-requires
     same-length-5
     same-length-6

@@ -18,6 +18,9 @@ loop-holds c = search needs
 add-word : tie.Need-add-word Inv-loop μ-loop
 add-word c = search needs
 
+add-word-2 : tie.Need-add-word-2 Inv-loop μ-loop
+add-word-2 c = search needs
+
 word-requires : tie.Need-word-requires Inv-loop μ-loop
 word-requires c κs = search needs
 
@@ -47,6 +50,7 @@ homes-spec =
     μ-loop
     loop-holds
     add-word
+    add-word-2
     word-requires
     mul-home
     array-write-home
