@@ -13,8 +13,8 @@
 //     kind E X, job E X, destination E X, stamp E X   of an entry; stamp is its ticket
 //
 // A place past the end stands for the last one.
-use lines::calls::word;
 use lines::text;
+use lines::text::word;
 use rules::Busy;
 use rules::Destination;
 use rules::Entries;

@@ -17,8 +17,8 @@
 // Empty lines and lines that begin with '#' are written as they are.
 mod change;
 mod lent;
+mod reading;
 
-ghost use mathlib.Core.Path.{_≡_};
 ghost use Prim.Native.Nat.{_≤_};
 ghost use lib.ListN.{length};
 use libc::STDIN_FILENO;
@@ -27,7 +27,6 @@ use lines::answer;
 use lines::calls;
 use lines::calls::Reply;
 use lines::text;
-use lines::text::Number;
 use rules::Outcome;
 use rules::PickAnswer;
 use rules::State;
@@ -91,7 +90,7 @@ fn step(
             kept: kept,
         };
     }
-    let c = read_repeat(line);
+    let c = reading::read_repeat(line);
     let start = c.start;
     let r = times(c.count, &line[start..], words, list, written, out, s);
     write_answer(out, r.length);
@@ -110,42 +109,6 @@ fn write_answer(out: &[u8], n: usize) {
     }
     io::write_all(STDOUT_FILENO, b" -> ");
     answer::write(out, n);
-}
-
-// How many times a line's call is made, and where the call begins.
-struct Repeat {
-    count: u64,
-    start: usize,
-}
-
-fn read_repeat(line: &[u8]) -> Repeat
-    ensures { λ r. ⌜ r .start ≤ length (now (line .entry)) ⌝ }
-{
-    let n = line.len();
-    if n == 0 {
-        return from_front(0);
-    }
-    if line[0] == 35 {
-        return from_front(0);
-    }
-    let end = text::find(line, 0, n, 32);
-    let Number::Is(count) = text::read_number(&line[..end]) else {
-        return from_front(1);
-    };
-    let start = text::skip_blanks(line, end);
-    Repeat {
-        count: count,
-        start: start,
-    }
-}
-
-fn from_front(count: u64) -> Repeat
-    ensures { λ r. ⌜ r .start ≡ 0 ⌝ }
-{
-    Repeat {
-        count: count,
-        start: 0,
-    }
 }
 
 fn times(
@@ -176,30 +139,22 @@ fn once(
 ) -> Reply {
     let n = line.len();
     let end = text::find(line, 0, n, 32);
-    let kind = kind_of(&line[..end]);
+    let kind = reading::kind_of(&line[..end]);
     if 3 < kind {
         return changing(kind, &line[end..], words, out, s);
     }
     let got = text::read_numbers(line, end, words);
     let k = got.count;
-    if !fits(got.whole, kind, k) {
+    if !reading::fits(got.whole, kind, k) {
         let m = answer::malformed(out);
         return calls::left(s, m);
     }
     if kind != 0 {
-        let a = calls::word(words, 0);
-        let b = calls::word(words, 1);
+        let a = text::word(words, 0);
+        let b = text::word(words, 1);
         return looking(kind, a, b, list, written, out, s);
     }
     calling(&line[..end], k, words, list, written, out, s)
-}
-
-// Whether all words were numbers, and two where something is looked at.
-fn fits(whole: bool, kind: u8, k: usize) -> bool {
-    if kind == 0 {
-        return whole;
-    }
-    whole & (k == 2)
 }
 
 // What is behind the names 1 to 3.
@@ -238,29 +193,6 @@ fn calling(
     let m = lent::spread(name, words, k);
     lent::fill(list, written);
     calls::call(name, &words[..m], list, written, out, s)
-}
-
-// A number for each name that is no call's: what looks at something, then what changes something. 0 for any other.
-fn kind_of(name: &[u8]) -> u8 {
-    if text::same(name, b"list") {
-        return 1;
-    }
-    if text::same(name, b"text") {
-        return 2;
-    }
-    if text::same(name, b"sequence") {
-        return 3;
-    }
-    if text::same(name, b"set") {
-        return 4;
-    }
-    if text::same(name, b"broken") {
-        return 5;
-    }
-    if text::same(name, b"range") {
-        return 6;
-    }
-    0
 }
 
 // What stands behind the name: a field and its numbers.

@@ -133,3 +133,8 @@ pub fn read_numbers(s: &[u8], from: usize, out: &mut [u64]) -> Numbers
         count: count,
     }
 }
+
+// The number at a place; 0 past the end.
+pub fn word(words: &[u64], i: usize) -> u64 {
+    if i < words.len() { words[i] } else { 0 }
+}

@@ -3,8 +3,8 @@ use Prim.Native.Nat.{_≤_, _-_}
 use mathlib.Core.Path.{_≡_}
 use lib.ListN.{length}
 use borrow.Author.Needs.{needs}
-use Rattle.lines.proofs.calls.homes.Statement.{statement}
-use Rattle.lines.proofs.calls.homes.Tie as tie
+use Rattle.lines.proofs.setups.homes.Statement.{statement}
+use Rattle.lines.proofs.setups.homes.Tie as tie
 
 abbrev Inv-loop : tie.InvT-loop
 Inv-loop words at home₀ j₀ home j = (length home ≡ 32) × (j ≤ 32)

@@ -3,8 +3,8 @@ use mathlib.Core.Path.{sym}
 use native.Mathlib.Omega.{arith}
 use lib.Seq.{length-take-le}
 use borrow.Author.Needs.{needs}
-use Rattle.boundaries.proofs.read_repeat.Statement.{statement}
-use Rattle.boundaries.proofs.read_repeat.Tie as tie
+use Rattle.boundaries.proofs.reading.read_repeat.Statement.{statement}
+use Rattle.boundaries.proofs.reading.read_repeat.Tie as tie
 
 from-front-requires : tie.Need-from-front-requires
 from-front-requires c κs = search needs
