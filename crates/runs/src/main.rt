@@ -10,7 +10,7 @@ ghost use Prim.Native.Nat.{_≤_};
 ghost use lib.ListN.{length};
 use libc::STDIN_FILENO;
 use lines::answer;
-use lines::calls;
+use lines::setups;
 use lines::text;
 use rules::Setup;
 use scheduler::RunEnd;
@@ -36,7 +36,7 @@ fn main() {
 fn read_lines(input: &mut [u8], words: &mut [u64], list: &mut [u64], out: &mut [u8]) {
     let n = io::read_full(STDIN_FILENO, input);
     let mut desk = Desk {
-        setup: calls::setup_of(&words[..0]),
+        setup: setups::no_setup(),
         count: 0,
     };
     let mut at: usize = 0;
@@ -64,7 +64,7 @@ fn step(line: &[u8], words: &mut [u64], list: &mut [u64], out: &mut [u8], desk: 
     if text::same(name, b"setup") {
         let k = numbers(line, end, words);
         return Desk {
-            setup: calls::setup_of(&words[..k]),
+            setup: read_setup(&words[..k]),
             count: 0,
         };
     }
@@ -79,6 +79,15 @@ fn step(line: &[u8], words: &mut [u64], list: &mut [u64], out: &mut [u8], desk: 
         setup: u,
         count: append(&words[..k], list, desk.count),
     }
+}
+
+// The set-up of these numbers; one of all zeros, which is refused, where they are not as many as it announces.
+fn read_setup(words: &[u64]) -> Setup {
+    let at = setups::count_place(words);
+    if at == 0 {
+        return setups::no_setup();
+    }
+    setups::setup_of(words, at)
 }
 
 // The numbers from a place on, at the start of the lent words, and how many there are; none where one is no number.
@@ -117,9 +126,9 @@ fn run(u: Setup, list: &[u64], rooms: &[u64], out: &mut [u8]) {
     let lists: &mut [u16] = &mut lists_space;
     let mut texts_space = [46u8; 512];
     let texts: &mut [u8] = &mut texts_space;
-    let a = text::at_most(calls::word(rooms, 0), answers.len());
-    let l = text::at_most(calls::word(rooms, 1), lists.len());
-    let t = text::at_most(calls::word(rooms, 2), texts.len());
+    let a = text::at_most(text::word(rooms, 0), answers.len());
+    let l = text::at_most(text::word(rooms, 1), lists.len());
+    let t = text::at_most(text::word(rooms, 2), texts.len());
     let r = scheduler::run(u, list, &mut answers[..a], &mut lists[..l], &mut texts[..t]);
     show_answers(answers, out);
     show_lists(lists, out);

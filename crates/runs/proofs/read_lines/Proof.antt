@@ -7,7 +7,7 @@ use Rattle.runs.proofs.read_lines.Tie as tie
 use Rattle.runs.proofs.read_lines.Reads as reads
 use Rattle.runs.proofs.read_lines.Lts as lts
 use Rattle.io.proofs.read_full.Reads as read-full-reads
-use Rattle.lines.proofs.calls.setup_of.Reads as setup-of-reads
+use Rattle.lines.proofs.setups.no_setup.Reads as no-setup-reads
 use Rattle.lines.proofs.text.find.Reads as find-reads
 use Rattle.runs.proofs.step.Reads as step-reads
 
@@ -20,14 +20,8 @@ abbrev μ-loop : tie.MeasureT-loop
 read-full-requires : tie.Need-read-full-requires Inv-loop μ-loop
 read-full-requires c κs = search needs
 
-slice-reshare-prefix-setup-of : tie.Need-slice-reshare-prefix-setup-of Inv-loop μ-loop
-slice-reshare-prefix-setup-of c = search needs
-
-slice-aggregate-setup-of : tie.Need-slice-aggregate-setup-of Inv-loop μ-loop
-slice-aggregate-setup-of c = search needs
-
-setup-of-requires : tie.Need-setup-of-requires Inv-loop μ-loop
-setup-of-requires c κs = search needs
+no-setup-requires : tie.Need-no-setup-requires Inv-loop μ-loop
+no-setup-requires c κs = search needs
 
 loop-holds : tie.Need-loop-holds Inv-loop μ-loop
 loop-holds c = search needs
@@ -78,9 +72,7 @@ read-lines-spec =
     Inv-loop
     μ-loop
     read-full-requires
-    slice-reshare-prefix-setup-of
-    slice-aggregate-setup-of
-    setup-of-requires
+    no-setup-requires
     loop-holds
     find-requires
     add-at

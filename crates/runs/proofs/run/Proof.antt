@@ -6,7 +6,7 @@ use Rattle.runs.proofs.run.Statement.{statement}
 use Rattle.runs.proofs.run.Tie as tie
 use Rattle.runs.proofs.run.Reads as reads
 use Rattle.runs.proofs.run.Lts as lts
-use Rattle.lines.proofs.calls.word.Reads as word-reads
+use Rattle.lines.proofs.text.word.Reads as word-reads
 use Rattle.lines.proofs.text.at_most.Reads as at-most-reads
 use Rattle.runs.proofs.show_answers.Reads as show-answers-reads
 use Rattle.runs.proofs.show_end.Reads as show-end-reads

@@ -6,7 +6,7 @@ use Rattle.runs.proofs.step.Statement.{statement}
 use Rattle.runs.proofs.step.Tie as tie
 use Rattle.runs.proofs.step.Reads as reads
 use Rattle.runs.proofs.step.Lts as lts
-use Rattle.lines.proofs.calls.setup_of.Reads as setup-of-reads
+use Rattle.runs.proofs.read_setup.Reads as read-setup-reads
 use Rattle.lines.proofs.text.at_most.Reads as at-most-reads
 use Rattle.lines.proofs.text.find.Reads as find-reads
 use Rattle.lines.proofs.text.same.Reads as same-reads
@@ -48,14 +48,14 @@ same-requires c κs = search needs
 numbers-requires : tie.Need-numbers-requires
 numbers-requires c κs = search needs
 
-slice-reshare-prefix-setup-of : tie.Need-slice-reshare-prefix-setup-of
-slice-reshare-prefix-setup-of c = search needs
+slice-reshare-prefix-read-setup : tie.Need-slice-reshare-prefix-read-setup
+slice-reshare-prefix-read-setup c = search needs
 
-slice-aggregate-setup-of : tie.Need-slice-aggregate-setup-of
-slice-aggregate-setup-of c = sym (length-take-le _ _ (omega arith))
+slice-aggregate-read-setup : tie.Need-slice-aggregate-read-setup
+slice-aggregate-read-setup c = sym (length-take-le _ _ (omega arith))
 
-setup-of-requires : tie.Need-setup-of-requires
-setup-of-requires c κs = search needs
+read-setup-requires : tie.Need-read-setup-requires
+read-setup-requires c κs = search needs
 
 same-length : tie.Need-same-length
 same-length c = search needs
@@ -138,9 +138,9 @@ step-spec =
     slice-aggregate-same
     same-requires
     numbers-requires
-    slice-reshare-prefix-setup-of
-    slice-aggregate-setup-of
-    setup-of-requires
+    slice-reshare-prefix-read-setup
+    slice-aggregate-read-setup
+    read-setup-requires
     same-length
     returns-3
     slice-aggregate-same-2
