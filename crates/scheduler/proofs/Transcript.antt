@@ -35,9 +35,10 @@ start-is u h = rw h refl
 
 pub transcript-holds : (u : Setup) (start : SetupReply) (steps : List Step) → Transcript u start steps → Holds u steps
 transcript-holds u start steps t =
-    let first : start .state ≡ freshState u = ap (λ r. r .state) (t .set) ∙ start-is u (t .accepted) in
+    let inside : setupInRange u ≡ true = sym (t .set .1) ∙ t .accepted in
+    let first : start .state ≡ freshState u = ap (λ r. r .state) (t .set .0) ∙ start-is u inside in
     record {
       replies = replies-are (freshState u) steps (subst (λ s. Follows s steps) first (t .follows));
-      demand3 = demand3 u (t .accepted) (callsOf steps);
-      companions = companions u (t .accepted) (callsOf steps);
+      demand3 = demand3 u inside (callsOf steps);
+      companions = companions u inside (callsOf steps);
     }

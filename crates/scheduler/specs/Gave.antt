@@ -1,7 +1,9 @@
 -- What a public call gave back, in the paper's numbers, beside what stands in its lent buffer: to be compared with the rules' reply.
 use Prim.Native.Nat.{ℕ}
+use mathlib.Core.Path.{_≡_}
 use mathlib.Core.Bool.{Bool, true, false}
 use mathlib.Core.List.{List, []}
+use Rattle.rules.specs.declared.Setup.{Setup}
 use Rattle.rules.specs.declared.State.{State}
 use Rattle.rules.specs.declared.SetupAnswer.{SetupAnswer}
 use Rattle.rules.specs.declared.SetupAnswer.the-variants
@@ -11,7 +13,8 @@ use Rattle.rules.specs.declared.PickReply.{PickReply}
 use Rattle.rules.specs.declared.ReportReply.{ReportReply}
 use Rattle.rules.specs.declared.AskAnswer.{AskAnswer}
 use Rattle.rules.specs.declared.BoardAnswer.{BoardAnswer}
-use Rattle.rules.specs.Calls.{Reply}
+use Rattle.rules.specs.Setup.{setupInRange}
+use Rattle.rules.specs.Calls.{Reply, setupReply}
 use Rattle.rules.specs.Answers.{setupSays, jobSays, pickSays, reportSays, askSays, boardSays}
 
 abbrev pub setupGave : SetupReply → Reply
@@ -21,6 +24,10 @@ setupGave r = record { says = setupSays (r .answer); state = r .state; buffer = 
 abbrev pub accepts : SetupAnswer → Bool
 accepts (SetupAnswer.Refused k) = false
 accepts SetupAnswer.Accepted = true
+
+-- what a set-up promises
+abbrev pub SetupKept : Setup → SetupReply → Type 0
+SetupKept u r = (setupGave r ≡ setupReply u) × (accepts (r .answer) ≡ setupInRange u)
 
 abbrev pub jobGave : JobReply → List ℕ → Reply
 jobGave r list = record { says = jobSays (r .answer); state = r .state; buffer = list }

@@ -6,11 +6,11 @@ use mathlib.Core.List.{List, [], _∷_, map}
 use Rattle.rules.specs.declared.Setup.{Setup}
 use Rattle.rules.specs.declared.State.{State}
 use Rattle.rules.specs.declared.SetupReply.{SetupReply}
-use Rattle.rules.specs.Setup.{setupInRange, freshState}
-use Rattle.rules.specs.Calls.{Reply, Call, job, pick, report, ask, board, setupReply, jobReply, pickReply, reportReply, askReply, boardReply}
+use Rattle.rules.specs.Setup.{freshState}
+use Rattle.rules.specs.Calls.{Reply, Call, job, pick, report, ask, board, jobReply, pickReply, reportReply, askReply, boardReply}
 use Rattle.rules.specs.Run.{repliesFrom}
 use Rattle.rules.specs.Demand3.{Demand3, Companions}
-use Rattle.scheduler.specs.Gave.{setupGave}
+use Rattle.scheduler.specs.Gave.{SetupKept, accepts}
 
 -- one call: its arguments, the state that it was handed, and what it gave back
 pub record Step : Type 0 where
@@ -32,9 +32,9 @@ Follows s [] = Unit {0}
 Follows s (x ∷ xs) = (x .handed ≡ s) × Kept (x .call) (x .handed) (x .gave) × Follows (x .gave .state) xs
 
 pub record Transcript (u : Setup) (start : SetupReply) (steps : List Step) : Type 0 where
-  -- what the contract of set-up says, and that it was accepted
-  pub set : setupGave start ≡ setupReply u
-  pub accepted : setupInRange u ≡ true
+  -- what the contract of set-up says, and that its answer was an acceptance
+  pub set : SetupKept u start
+  pub accepted : accepts (start .answer) ≡ true
   pub follows : Follows (start .state) steps
 
 abbrev pub callsOf : List Step → List Call

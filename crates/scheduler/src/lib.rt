@@ -17,14 +17,13 @@ use rules::SetupAnswer;
 use rules::SetupReply;
 use rules::State;
 ghost use mathlib.Core.Path.{_≡_};
-ghost use Rattle.rules.specs.Setup.{setupInRange};
-ghost use Rattle.rules.specs.Calls.{setupReply, jobReply, pickReply, reportReply, askReply, boardReply};
-ghost use Rattle.scheduler.specs.Gave.{setupGave, accepts, jobGave, pickGave, reportGave, askGave, boardGave};
+ghost use Rattle.rules.specs.Calls.{jobReply, pickReply, reportReply, askReply, boardReply};
+ghost use Rattle.scheduler.specs.Gave.{SetupKept, jobGave, pickGave, reportGave, askGave, boardGave};
 ghost use Rattle.scheduler.specs.Runs.{runGave, runReply, callsRead, Demand3OfRun};
 
 // The state of a set-up. A refused one gives the state of all zeros.
 pub fn set_up(u: Setup) -> SetupReply
-    ensures { λ r. ⌜ (setupGave r ≡ setupReply u) × (accepts (r .answer) ≡ setupInRange u) ⌝ }
+    ensures { λ r. ⌜ SetupKept u r ⌝ }
 {
     if !startup::in_range(u) {
         return SetupReply {
