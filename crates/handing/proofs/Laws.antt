@@ -1,78 +1,96 @@
--- What the code of a preemption leaves is the rule's state.
+-- What the code of a preemption and of handing out leaves is the rules' state.
 use Prim.Native.Nat.{ℕ, _+_, _%_, _<_}
-use mathlib.Core.Path.{_≡_, refl, sym, subst}
-use mathlib.Core.Bool.{true}
+use mathlib.Core.Path.{_≡_, refl, sym, ap, subst}
+use mathlib.Core.Bool.{Bool, true}
 use mathlib.Core.List.{List, []}
 use native.Mathlib.Numerals.{add-one}
 use lib.ListN.{length, getD, set}
 use Rattle.laws.specs.Sequence.{moveBefore}
 use Rattle.laws.proofs.Columns.{getD-default}
 use Rattle.rules.specs.declared.JobList.{JobList}
-use Rattle.rules.specs.declared.Jobs.{Jobs}
 use Rattle.rules.specs.declared.State.{State}
 use Rattle.rules.specs.Sizes.{tickets}
-use Rattle.rules.specs.State.{at, zeroList, listOf, listed, queueOf, parentOf, destinationOf}
+use Rattle.rules.specs.State.{at, zeroList, listed, queueOf, parentOf, destinationOf}
 use Rattle.rules.specs.Preemption.{charged, preempting}
-use Rattle.rules.specs.Pick.{pickedJobs, pickedEntries, oneMoreBusy, handedOut}
+use Rattle.rules.specs.Pick.{handedOut}
 
 -- a transport's list, whatever stands past the end
 pub same-list : (w : State) (t : ℕ) → length (w .queues) ≡ 4 → t < 4 → getD (w .queues) t (record { jobs = []; count = 0 }) ≡ getD (w .queues) t zeroList
 same-list w t e h = getD-default (w .queues) t (record { jobs = []; count = 0 }) zeroList (subst (λ n. t < n) (sym e) h)
 
--- the jobs and the state that the code builds, from the list and the sums that its callees gave
-abbrev pub builtJobs : Jobs → ℕ → ℕ → ℕ → List ℕ → Jobs
-builtJobs g x y m sums =
-    record {
-      present = g .present;
-      transport = g .transport;
-      n = g .n;
-      picked = g .picked;
-      dropped = g .dropped;
-      sold = set (g .sold) y (at (g .sold) y + m);
-      parent = set (g .parent) x (y + 1);
-      preempted = set (g .preempted) x true;
-      arrival = g .arrival;
-      overtakers = sums;
-      turn = g .turn;
-      places = g .places;
-      order = g .order;
-    }
-
-abbrev pub builtState : State → List JobList → Jobs → State
-builtState w queues jobs =
-    record {
+-- the state that the code of a preemption leaves, from the list and the columns that its callees gave
+pub preempt-is : (w : State) (t x y m : ℕ) (q : JobList) (sums sold parent : List ℕ) (preempted : List Bool) → q ≡ listed (moveBefore x y (queueOf w t))
+    → sums ≡ charged (parentOf w) y m (w .jobs .overtakers)
+    → sold ≡ set (w .jobs .sold) y (at (w .jobs .sold) y + m)
+    → parent ≡ set (w .jobs .parent) x (y + 1)
+    → preempted ≡ set (w .jobs .preempted) x true
+    → record {
       setup = w .setup;
       clock = w .clock;
       ticket = w .ticket;
       turn = w .turn;
       destinations = w .destinations;
       busy = w .busy;
-      queues = queues;
+      queues = set (w .queues) t q;
       arrivals = w .arrivals;
-      jobs = jobs;
+      jobs =
+          record {
+            present = w .jobs .present;
+            transport = w .jobs .transport;
+            n = w .jobs .n;
+            picked = w .jobs .picked;
+            dropped = w .jobs .dropped;
+            sold = sold;
+            parent = parent;
+            preempted = preempted;
+            arrival = w .jobs .arrival;
+            overtakers = sums;
+            turn = w .jobs .turn;
+            places = w .jobs .places;
+            order = w .jobs .order;
+          };
       entries = w .entries;
     }
-
-pub preempt-is : (w : State) (t x y m : ℕ) (q : JobList) (sums : List ℕ) → q ≡ listed (moveBefore x y (queueOf w t))
-    → sums ≡ charged (parentOf w) y m (w .jobs .overtakers)
-    → builtState w (set (w .queues) t q) (builtJobs (w .jobs) x y m sums) ≡ preempting w t x y m
+    ≡ preempting w t x y m
 unfolding preempting
-preempt-is w t x y m q sums e f = rw (e, f, add-one y) refl
+preempt-is w t x y m q sums sold parent preempted e f g h k = rw (e, f, g, h, k, add-one y) refl
 
--- the state that the code of handing out builds, from the next ticket
-pub hand-out-is : (w : State) (t j place e ticket : ℕ) → ticket ≡ (w .ticket + 1) % tickets
+-- the state that the code of handing out leaves, from the columns that its callees gave
+pub hand-out-is : (w : State) (t j place e d ticket : ℕ) (kind issued picked turn lanes counts : List ℕ) → d ≡ destinationOf w e
+    → ticket ≡ (w .ticket + 1) % tickets
+    → kind ≡ set (w .entries .kind) e 2
+    → issued ≡ set (w .entries .ticket) e (w .ticket)
+    → picked ≡ set (w .jobs .picked) j (at (w .jobs .picked) j + 1)
+    → turn ≡ set (w .jobs .turn) j (place + 1)
+    → lanes ≡ set (w .busy .transport) t (at (w .busy .transport) t + 1)
+    → counts ≡ set (w .busy .destination) d (at (w .busy .destination) d + 1)
     → record {
       setup = w .setup;
       clock = w .clock;
       ticket = ticket;
       turn = t + 1;
       destinations = w .destinations;
-      busy = oneMoreBusy (w .busy) t (destinationOf w e);
+      busy = record { transport = lanes; destination = counts };
       queues = w .queues;
       arrivals = w .arrivals;
-      jobs = pickedJobs (w .jobs) j place;
-      entries = pickedEntries (w .entries) e (w .ticket);
+      jobs =
+          record {
+            present = w .jobs .present;
+            transport = w .jobs .transport;
+            n = w .jobs .n;
+            picked = picked;
+            dropped = w .jobs .dropped;
+            sold = w .jobs .sold;
+            parent = w .jobs .parent;
+            preempted = w .jobs .preempted;
+            arrival = w .jobs .arrival;
+            overtakers = w .jobs .overtakers;
+            turn = turn;
+            places = w .jobs .places;
+            order = w .jobs .order;
+          };
+      entries = record { kind = kind; job = w .entries .job; destination = w .entries .destination; ticket = issued };
     }
     ≡ handedOut w t j place e
 unfolding handedOut
-hand-out-is w t j place e ticket h = rw h refl
+hand-out-is w t j place e d ticket kind issued picked turn lanes counts a b f g h k l m = rw (b, f, g, h, k, l, m, a) refl

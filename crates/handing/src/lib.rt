@@ -1,18 +1,10 @@
-// What a pick writes: a preemption, and an entry handed out.
-use rules::PickAnswer;
-use rules::PickReply;
-use rules::State;
+// What a pick writes, column by column: a preemption, and an entry handed out. The pick itself, which joins these, is the scheduler's.
 ghost use mathlib.Core.Path.{_≡_};
-ghost use Prim.Native.Nat.{_+_, _%_};
+ghost use mathlib.Core.Bool.{true};
+ghost use Prim.Native.Nat.{_+_, _%_, _<_, _≤_};
+ghost use lib.ListN.{set};
 ghost use Rattle.rules.specs.Sizes.{tickets};
-ghost use Rattle.rules.specs.Preemption.{preempting};
-ghost use mathlib.Core.List.{[]};
-ghost use Rattle.rules.specs.Windows.{woken};
-ghost use Rattle.rules.specs.Pick.{handedOut};
-ghost use Rattle.rules.specs.Refusals.{pickRefusal};
-ghost use Rattle.rules.specs.Calls.{afterPick};
-ghost use Rattle.rules.specs.Answers.{pickSays};
-ghost use Rattle.handing.specs.May.{MayPreempt, MayHandOut};
+ghost use Rattle.rules.specs.State.{at};
 
 // The ticket after t: it rolls from 4,294,967,295 back to 0.
 pub fn next_ticket(t: u32) -> u32
@@ -21,91 +13,58 @@ pub fn next_ticket(t: u32) -> u32
     std::num::wrapping_add_u32(t, 1)
 }
 
-// Job x, with m waiting entries, preempts job y on transport t. The pick has found that it may.
-pub fn preempt(w: State, t: u8, x: u8, y: u8, m: u16) -> State
-    requires { ⌜ MayPreempt w t x y m ⌝ }
-    ensures { λ r. ⌜ r ≡ preempting w t x y m ⌝ }
+// A number of a column of the entries.
+pub fn read(column: &[u8; 512], e: usize) -> u8
+    requires { ⌜ e < 512 ⌝ }
+    ensures { λ r. ⌜ r ≡ at (now (column .entry)) e ⌝ }
 {
-    let lane = t as usize;
-    let mover = x as usize;
-    let payer = y as usize;
-    let mut next = w;
-    let q = w.queues[lane];
-    next.queues[lane] = lists::move_before(q, x, y);
-    let mut g = w.jobs;
-    let parent = g.parent;
-    charging::charge_from(&parent, &mut g.overtakers, y, m);
-    g.sold[payer] = g.sold[payer] + m;
-    g.parent[mover] = y + 1;
-    g.preempted[mover] = true;
-    next.jobs = g;
-    next
+    column[e]
 }
 
-// Entry e of job j, at a place of its order, is handed out on transport t. The pick has found that it waits.
-pub fn hand_out(w: State, t: u8, j: u8, place: u8, e: u16) -> State
-    requires { ⌜ MayHandOut w t j place e ⌝ }
-    ensures { λ r. ⌜ r ≡ handedOut w t j place e ⌝ }
+// An entry's kind.
+pub fn put_kind(column: &mut [u8; 512], e: usize, kind: u8)
+    requires { ⌜ e < 512 ⌝ }
+    ensures { λ _. ⌜ now (column .exit) ≡ set (now (column .entry)) e kind ⌝ }
 {
-    let lane = t as usize;
-    let job = j as usize;
-    let entry = e as usize;
-    let mut next = w;
-    let mut entries = w.entries;
-    let d = entries.destination[entry] as usize;
-    entries.kind[entry] = 2;
-    entries.ticket[entry] = w.ticket;
-    next.entries = entries;
-    let mut g = w.jobs;
-    g.picked[job] = g.picked[job] + 1;
-    g.turn[job] = place + 1;
-    next.jobs = g;
-    let mut busy = w.busy;
-    busy.transport[lane] = busy.transport[lane] + 1;
-    busy.destination[d] = busy.destination[d] + 1;
-    next.busy = busy;
-    next.ticket = next_ticket(w.ticket);
-    next.turn = t + 1;
-    next
+    column[e] = kind;
 }
 
-// The pick of a sound state at a clock in order, both tested before: the next entry where one is eligible.
-pub fn pick(s: State, now: u64) -> PickReply
-    requires { ⌜ pickRefusal s now ≡ 0 ⌝ }
-    ensures { λ r. ⌜ record { says = pickSays (r .answer); state = r .state; buffer = [] } ≡ afterPick (woken s now) now ⌝ }
+// An entry's ticket.
+pub fn put_ticket(column: &mut [u32; 512], e: usize, ticket: u32)
+    requires { ⌜ e < 512 ⌝ }
+    ensures { λ _. ⌜ now (column .exit) ≡ set (now (column .entry)) e ticket ⌝ }
 {
-    let u = s.setup;
-    let old = s.destinations;
-    let ds = window::wake(old, u, now);
-    let mut w = s;
-    w.clock = now as u32;
-    w.destinations = ds;
-    let c = choice::choose(w, now);
-    if !c.found {
-        return PickReply {
-            answer: PickAnswer::Nothing,
-            state: w,
-        };
-    }
-    if c.preemptor == 0 {
-        return PickReply {
-            answer: PickAnswer::Picked {
-                job: c.job,
-                entry: c.entry,
-                ticket: s.ticket,
-                passed: c.passed,
-            },
-            state: hand_out(w, c.transport, c.job, c.place, c.entry),
-        };
-    }
-    let moved = preempt(w, c.transport, c.job, c.current, c.waiting);
-    PickReply {
-        answer: PickAnswer::Picked {
-            job: c.job,
-            entry: c.entry,
-            ticket: s.ticket,
-            passed: c.passed,
-        },
-        state: hand_out(moved, c.transport, c.job, c.place, c.entry),
-    }
+    column[e] = ticket;
+}
+
+// m more of a job's or a destination's count.
+pub fn add(column: &mut [u16; 32], i: usize, m: u16)
+    requires { ⌜ (i < 32) × (at (now column) i + m ≤ 65535) ⌝ }
+    ensures { λ _. ⌜ now (column .exit) ≡ set (now (column .entry)) i (at (now (column .entry)) i + m) ⌝ }
+{
+    column[i] = column[i] + m;
+}
+
+// One more busy on a transport.
+pub fn one_more(column: &mut [u16; 4], t: usize)
+    requires { ⌜ (t < 4) × (at (now column) t < 65535) ⌝ }
+    ensures { λ _. ⌜ now (column .exit) ≡ set (now (column .entry)) t (at (now (column .entry)) t + 1) ⌝ }
+{
+    column[t] = column[t] + 1;
+}
+
+// A job's parent, or its turn.
+pub fn put(column: &mut [u8; 32], j: usize, v: u8)
+    requires { ⌜ j < 32 ⌝ }
+    ensures { λ _. ⌜ now (column .exit) ≡ set (now (column .entry)) j v ⌝ }
+{
+    column[j] = v;
+}
+
+// A job is marked as having preempted.
+pub fn mark(column: &mut [bool; 32], j: usize)
+    requires { ⌜ j < 32 ⌝ }
+    ensures { λ _. ⌜ now (column .exit) ≡ set (now (column .entry)) j true ⌝ }
+{
+    column[j] = true;
 }

@@ -171,14 +171,15 @@ module _ (s : State) (clock e : ℕ) (outcome : Outcome) (shape : Shaped s) wher
     | no p ↦ List·getD-eq-default (tableTo (stays Left) 32) false {n = j} (omega (arith, length-table (stays Left) 32)) ∙ sym (absent-leaves Left j (List·getD-eq-default (s .jobs .present) false {n = j} (omega (arith, shape .jobs .present))))
   ]
 
-  module _ {list : List ℕ} {ds : List Destination} {after : Health} {live live' : Bool} {kind dropped written' : List ℕ} {n : ℕ} {stay : List Bool}
+  module _ {list : List ℕ} {ds : List Destination} {after : Health} {live live' : Bool} {kind freed dropped written' : List ℕ} {n : ℕ} {stay : List Bool}
       {adopted : List ℕ} {queue arrivals : JobList}
       (woke : ds ≡ tableTo (wokenAt (s .destinations) (s .setup) clock) 32)
       (step : after ≡ stepped (settingsFor s (destinationOf s e)) (at (s .busy .destination) (destinationOf s e)) clock (getD ds (destinationOf s e) zeroDestination .health) outcome)
       (lived : live ≡ isLive (getD ds (destinationOf s e) zeroDestination .health))
       (lives : live' ≡ isLive after)
       (put : PutOff (live && not live') (destinationOf s e) (s .entries .kind) (s .entries .job) (s .entries .destination) (s .jobs .dropped) list kind dropped written' n)
-      (stayed : stay ≡ tableTo (staysAt (set kind e 0) (s .entries .job) (s .jobs .present) 512) 32)
+      (free : freed ≡ set kind e 0)
+      (stayed : stay ≡ tableTo (staysAt freed (s .entries .job) (s .jobs .present) 512) 32)
       (linked : adopted ≡ tableTo (adoptedAt stay (s .jobs .parent)) 32)
       (queued : queue ≡ listed (keep (λ j. getD stay j false) (queueOf s (transportOf s (destinationOf s e)))))
       (arrived : arrivals ≡ listed (keep (λ j. getD stay j false) (listOf (s .arrivals)))) where
@@ -196,9 +197,9 @@ module _ (s : State) (clock e : ℕ) (outcome : Outcome) (shape : Shaped s) wher
     was : PutOff died' (destinationOf s e) (s .entries .kind) (s .entries .job) (s .entries .destination) (s .jobs .dropped) list kind dropped written' n
     was = subst (λ b. PutOff b (destinationOf s e) (s .entries .kind) (s .entries .job) (s .entries .destination) (s .jobs .dropped) list kind dropped written' n) died-is put
 
-    kind-is : set kind e 0 ≡ Left .entries .kind
+    kind-is : freed ≡ Left .entries .kind
     unfolding settled kindAfter isPutOff woken
-    kind-is = ap (λ l. set l e 0) (was .kinds) ∙ table-set _ maxEntries e 0
+    kind-is = free ∙ ap (λ l. set l e 0) (was .kinds) ∙ table-set _ maxEntries e 0
 
     dropped-is : dropped ≡ Left .jobs .dropped
     unfolding settled putOffOf isPutOff woken
@@ -241,7 +242,7 @@ module _ (s : State) (clock e : ℕ) (outcome : Outcome) (shape : Shaped s) wher
         queues = set (s .queues) (transportOf s (destinationOf s e)) queue;
         arrivals = arrivals;
         jobs = remainingJobs (droppingJobs (s .jobs) dropped) stay adopted;
-        entries = record { kind = set kind e 0; job = s .entries .job; destination = s .entries .destination; ticket = s .entries .ticket };
+        entries = record { kind = freed; job = s .entries .job; destination = s .entries .destination; ticket = s .entries .ticket };
       };
       buffer = written';
     }) (reportingReply (reporting (woken s clock) clock e (destinationOf s e) outcome) list)

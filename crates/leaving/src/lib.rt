@@ -1,29 +1,22 @@
-// Document 01, "Windows", last part: what a report of a sound state does, and its refusal.
-use rules::Destination;
+// Document 01, "Windows", last part: the steps of a report of a sound state, and its refusal.
 use rules::Health;
 use rules::JobList;
 use rules::Outcome;
-use rules::ReportAnswer;
-use rules::ReportReply;
 use rules::Settings;
 use rules::State;
 ghost use mathlib.Core.Path.{_≡_};
 ghost use mathlib.Core.Bool.{true, false};
 ghost use mathlib.Core.List.{List};
 ghost use Prim.Native.Nat.{ℕ, _≤_, _<_};
-ghost use lib.ListN.{length, getD};
+ghost use lib.ListN.{length, getD, set};
 ghost use Rattle.laws.specs.Range.{tableTo};
-ghost use Rattle.rules.specs.State.{at, isLive, zeroList, destinationOf};
+ghost use Rattle.rules.specs.State.{at, isLive, zeroList};
 ghost use Rattle.rules.specs.Setup.{settingsInRange};
 ghost use Rattle.rules.specs.Sound.{sound};
-ghost use Rattle.rules.specs.Windows.{woken};
-ghost use Rattle.rules.specs.Reporting.{reporting};
 ghost use Rattle.rules.specs.Refusals.{reportRefusal};
-ghost use Rattle.rules.specs.Calls.{Reply, reportingReply};
-ghost use Rattle.rules.specs.Answers.{reportSays};
 ghost use Rattle.window.specs.Fits.{healthFits};
 ghost use Rattle.charging.specs.Links.{leadsInside};
-ghost use Rattle.leaving.specs.Columns.{stepped, staysAt, nearestOf, adoptedAt, CanPutOff, PutOff, CanReport};
+ghost use Rattle.leaving.specs.Columns.{stepped, staysAt, nearestOf, adoptedAt, CanPutOff, PutOff};
 
 fn wide(x: u8) -> usize
     ensures { λ r. ⌜ r ≡ x ⌝ }
@@ -32,7 +25,7 @@ fn wide(x: u8) -> usize
 }
 
 // The destination after this outcome; busy still counts this delivery.
-fn step(g: Settings, busy: u64, now: u64, h: Health, outcome: Outcome) -> Health
+pub fn step(g: Settings, busy: u64, now: u64, h: Health, outcome: Outcome) -> Health
     requires { ⌜ (settingsInRange g ≡ true) × (healthFits g h ≡ true) × (busy ≤ 512) × (now ≤ 4294967295) ⌝ }
     ensures { λ r. ⌜ r ≡ stepped g busy now h outcome ⌝ }
 {
@@ -42,7 +35,7 @@ fn step(g: Settings, busy: u64, now: u64, h: Health, outcome: Outcome) -> Health
     }
 }
 
-fn is_live(h: Health) -> bool
+pub fn is_live(h: Health) -> bool
     ensures { λ r. ⌜ r ≡ isLive h ⌝ }
 {
     match h {
@@ -52,7 +45,7 @@ fn is_live(h: Health) -> bool
 }
 
 // The waiting entries of a destination that died are put off: free, in the list with numbers rising, counted as dropped. Their number.
-fn put_off<'a>(
+pub fn put_off<'a>(
     kind: &mut [u8; 512],
     job: &'a [u8; 512],
     destination: &'a [u8; 512],
@@ -82,8 +75,16 @@ fn put_off<'a>(
     m as u16
 }
 
+// The reported entry is free.
+pub fn free(kind: &mut [u8; 512], e: usize)
+    requires { ⌜ e < 512 ⌝ }
+    ensures { λ _. ⌜ now (kind .exit) ≡ set (now (kind .entry)) e 0 ⌝ }
+{
+    kind[e] = 0;
+}
+
 // Which of the present jobs have a waiting or busy entry.
-fn staying<'a>(kind: &[u8; 512], job: &'a [u8; 512], present: &[bool; 32]) -> [bool; 32]
+pub fn staying<'a>(kind: &[u8; 512], job: &'a [u8; 512], present: &[bool; 32]) -> [bool; 32]
     ensures { λ r. ⌜ r ≡ tableTo (staysAt (now (kind .entry)) (now (job .entry)) (now (present .entry)) 512) 32 ⌝ }
 {
     let mut stays = [false; 32];
@@ -122,7 +123,7 @@ fn nearest(stays: &[bool; 32], parent: &[u8; 32], link: u8) -> u8
 }
 
 // The parents after the others have left: "Its children pass to the nearest ancestor that stays, or to none".
-fn adopt(stays: &[bool; 32], parent: &[u8; 32]) -> [u8; 32]
+pub fn adopt(stays: &[bool; 32], parent: &[u8; 32]) -> [u8; 32]
     requires { ⌜ ((j : ℕ) → j < 32 → getD (now stays) j false ≡ true → leadsInside (at (now parent)) 32 (at (now parent) j) ≡ true) ⌝ }
     ensures { λ r. ⌜ r ≡ tableTo (adoptedAt (now (stays .entry)) (now (parent .entry))) 32 ⌝ }
 {
@@ -146,7 +147,7 @@ fn wide_ticket(x: u32) -> u64
 }
 
 // A transport's list.
-fn queue_of(queues: [JobList; 4], t: usize) -> JobList
+pub fn queue_of(queues: [JobList; 4], t: usize) -> JobList
     requires { ⌜ t < 4 ⌝ }
     ensures { λ r. ⌜ r ≡ getD queues t zeroList ⌝ }
 {
@@ -178,75 +179,4 @@ pub fn refusal(s: State, clock: u64, entry: u64, ticket: u64, places: usize) -> 
         return 10;
     }
     0
-}
-
-// A report that was accepted.
-pub fn report(s: State, clock: u64, entry: u64, outcome: Outcome, list: &mut [u16]) -> ReportReply
-    requires { ⌜ CanReport s clock entry (length (now list)) ⌝ }
-    ensures { λ r. ⌜ _≡_ {A = Reply} (record { says = reportSays (r .answer); state = r .state; buffer = now (list .exit) })
-        (reportingReply (reporting (woken s clock) clock entry (destinationOf s entry) outcome) (now (list .entry))) ⌝ }
-{
-    let mut next = s;
-    next.clock = clock as u32;
-
-    // the destination's step
-    let setup = s.setup;
-    let old = s.destinations;
-    let mut ds = window::wake(old, setup, clock);
-    let e = entry as usize;
-    let mut es = s.entries;
-    let to = es.destination[e];
-    let d = to as usize;
-    let t = setup.home[d] as usize;
-    let g = setup.settings[t];
-    let x = ds[d];
-    let before = x.health;
-    let mut busy = s.busy;
-    let many = busy.destination[d] as u64;
-    let after = step(g, many, clock, before, outcome);
-    ds[d] = Destination { health: after };
-    next.destinations = ds;
-
-    // the entry is free, and those that wait are put off where the destination died
-    busy.transport[t] -= 1;
-    busy.destination[d] -= 1;
-    next.busy = busy;
-    let died = is_live(before) & !is_live(after);
-    let mut kind = es.kind;
-    let mut jobs = s.jobs;
-    let mut dropped = jobs.dropped;
-    let count = put_off(
-        &mut kind,
-        &es.job,
-        &es.destination,
-        &mut dropped,
-        list,
-        died,
-        to,
-    );
-    kind[e] = 0;
-
-    // those without an entry leave
-    let present = jobs.present;
-    let parent = jobs.parent;
-    let stays = staying(&kind, &es.job, &present);
-    jobs.dropped = dropped;
-    let adopted = adopt(&stays, &parent);
-    jobs.parent = adopted;
-    jobs.present = stays;
-    next.jobs = jobs;
-    es.kind = kind;
-    next.entries = es;
-    let mut queues = s.queues;
-    let q = queue_of(queues, t);
-    let queue = lists::keep(q, &stays);
-    queues[t] = queue;
-    next.queues = queues;
-    let a = s.arrivals;
-    let arrivals = lists::keep(a, &stays);
-    next.arrivals = arrivals;
-    ReportReply {
-        answer: ReportAnswer::Reported(count),
-        state: next,
-    }
 }

@@ -5,6 +5,7 @@ mod runs;
 
 use rules::AskAnswer;
 use rules::BoardAnswer;
+use rules::Destination;
 use rules::JobAnswer;
 use rules::JobReply;
 use rules::Outcome;
@@ -77,7 +78,8 @@ pub fn board(s: State, buffer: &mut [u8]) -> BoardAnswer
 pub fn pick(s: State, now: u64) -> PickReply
     ensures { λ r. ⌜ pickGave r ≡ pickReply s now ⌝ }
 {
-    if !soundness::sound(s) {
+    let mut next = s;
+    if !soundness::sound(next) {
         return PickReply {
             answer: PickAnswer::Refused(1),
             state: s,
@@ -95,7 +97,55 @@ pub fn pick(s: State, now: u64) -> PickReply
             state: s,
         };
     }
-    handing::pick(s, now)
+    let u = s.setup;
+    let old = s.destinations;
+    let ds = window::wake(old, u, now);
+    next.clock = now as u32;
+    next.destinations = ds;
+    let c = choice::choose(next, now);
+    if !c.found {
+        return PickReply {
+            answer: PickAnswer::Nothing,
+            state: next,
+        };
+    }
+    let lane = c.transport as usize;
+    let job = c.job as usize;
+
+    // the job that preempts moves directly before the current one, which pays for it
+    if c.preemptor != 0 {
+        let payer = c.current as usize;
+        let q = next.queues[lane];
+        let queue = lists::move_before(q, c.job, c.current);
+        next.queues[lane] = queue;
+        let parent = next.jobs.parent;
+        charging::charge_from(&parent, &mut next.jobs.overtakers, c.current, c.waiting);
+        handing::add(&mut next.jobs.sold, payer, c.waiting);
+        handing::put(&mut next.jobs.parent, job, c.current + 1);
+        handing::mark(&mut next.jobs.preempted, job);
+    }
+
+    // the entry is handed out, with a ticket
+    let entry = c.entry as usize;
+    let d = handing::read(&next.entries.destination, entry) as usize;
+    let ticket = next.ticket;
+    handing::put_kind(&mut next.entries.kind, entry, 2);
+    handing::put_ticket(&mut next.entries.ticket, entry, ticket);
+    handing::add(&mut next.jobs.picked, job, 1);
+    handing::put(&mut next.jobs.turn, job, c.place + 1);
+    handing::one_more(&mut next.busy.transport, lane);
+    handing::add(&mut next.busy.destination, d, 1);
+    next.ticket = handing::next_ticket(ticket);
+    next.turn = c.transport + 1;
+    PickReply {
+        answer: PickAnswer::Picked {
+            job: c.job,
+            entry: c.entry,
+            ticket: s.ticket,
+            passed: c.passed,
+        },
+        state: next,
+    }
 }
 
 // A job with an entry for each destination. Positions of entries put off at once go to the lent list; places past
@@ -130,7 +180,8 @@ pub fn report(
 ) -> ReportReply
     ensures { λ r. ⌜ reportGave r (list .exit .now) ≡ reportReply s now entry ticket outcome (list .entry .now) ⌝ }
 {
-    if !soundness::sound(s) {
+    let mut next = s;
+    if !soundness::sound(next) {
         return ReportReply {
             answer: ReportAnswer::Refused(1),
             state: s,
@@ -143,7 +194,66 @@ pub fn report(
             state: s,
         };
     }
-    leaving::report(s, now, entry, outcome, list)
+    next.clock = now as u32;
+
+    // the destination's step
+    let setup = s.setup;
+    let old = s.destinations;
+    let mut ds = window::wake(old, setup, now);
+    let e = entry as usize;
+    let job = s.entries.job;
+    let destination = s.entries.destination;
+    let to = destination[e];
+    let d = to as usize;
+    let t = setup.home[d] as usize;
+    let g = setup.settings[t];
+    let x = ds[d];
+    let before = x.health;
+    let mut busy = s.busy;
+    let many = busy.destination[d] as u64;
+    let after = leaving::step(g, many, now, before, outcome);
+    ds[d] = Destination { health: after };
+    next.destinations = ds;
+
+    // the entry is free, and those that wait are put off where the destination died
+    busy.transport[t] -= 1;
+    busy.destination[d] -= 1;
+    next.busy = busy;
+    let died = leaving::is_live(before) & !leaving::is_live(after);
+    let mut jobs = s.jobs;
+    let mut dropped = jobs.dropped;
+    let count = leaving::put_off(
+        &mut next.entries.kind,
+        &job,
+        &destination,
+        &mut dropped,
+        list,
+        died,
+        to,
+    );
+    leaving::free(&mut next.entries.kind, e);
+
+    // those without an entry leave
+    let present = jobs.present;
+    let parent = jobs.parent;
+    let stays = leaving::staying(&next.entries.kind, &job, &present);
+    jobs.dropped = dropped;
+    let adopted = leaving::adopt(&stays, &parent);
+    jobs.parent = adopted;
+    jobs.present = stays;
+    next.jobs = jobs;
+    let mut queues = s.queues;
+    let q = leaving::queue_of(queues, t);
+    let queue = lists::keep(q, &stays);
+    queues[t] = queue;
+    next.queues = queues;
+    let a = s.arrivals;
+    let arrivals = lists::keep(a, &stays);
+    next.arrivals = arrivals;
+    ReportReply {
+        answer: ReportAnswer::Reported(count),
+        state: next,
+    }
 }
 
 // Why a run ended: the set-up was refused, the list of calls came to its end, it is cut short within a call, a kind of

@@ -1,42 +1,192 @@
-use mathlib.Core.Path.{refl, sym, _∙_}
-use borrow.Author.Needs.{needs}
+-- The state's shape is in its type; from it and soundness follows what each step asks, and `report-is` joins what they ensure. Assumes nothing.
+use Prim.Native.Nat.{ℕ, _≤_}
+use mathlib.Core.Path.{_≡_, refl, sym, subst, ap, _∙_}
+use mathlib.Core.Bool.{Bool, false}
+use native.Mathlib.Omega.{arith}
+use lib.ListN.{length, set, getD}
+use borrow.Author.Needs.{needs, length-unmapped}
 use borrow.Author.Tests.{not-true, not-false}
+use Rattle.laws.specs.Sequence.{keep}
+use Rattle.laws.proofs.Table.{length-table}
+use Rattle.rules.specs.declared.JobList.{JobList}
+use Rattle.rules.specs.State.{zeroList, listOf, listed}
+use Rattle.rules.specs.Refusals.{reportRefusal}
+use Rattle.rules.proofs.Shape.{Shaped}
+use Rattle.leaving.specs.Columns.{CanReport}
+use Rattle.leaving.proofs.Given.{each-at, length-field}
+use Rattle.leaving.proofs.ReportLaws.{ReportAsks, report-asks, step-asks, put-off-asks, adopt-asks, report-is}
 use Rattle.scheduler.proofs.CallLaws.{report-unsound, report-refused, report-can, report-made}
 use Rattle.scheduler.proofs.report.Statement.{statement}
 use Rattle.scheduler.proofs.report.Tie as tie
-use Rattle.scheduler.proofs.report.Reads as reads
-use Rattle.scheduler.proofs.report.Lts as lts
-use Rattle.leaving.proofs.refusal.Reads as refusal-reads
-use Rattle.leaving.proofs.report.Reads as report-reads
-use Rattle.soundness.proofs.sound.Reads as sound-reads
 
--- src/lib.rt:130:9
+shape : (c : tie.Start) → Shaped (c .args .s)
+shape c =
+    let queues = length-field _ (c .args .s .queues) 4 (c .good .0 .1 .1 .1 .1 .1 .1 .1 .1 .0 .1 .0 .1) in
+    record {
+      destinations = length-field _ (c .args .s .destinations) 32 (c .good .0 .1 .1 .1 .1 .1 .1 .0 .1 .0 .1);
+      busy = record { transport = length-unmapped ℕ (c .args .s .busy .transport) 4 (c .good .0 .1 .1 .1 .1 .1 .1 .1 .0 .1 .1 .0 .1 .0 .1); destination = length-unmapped ℕ (c .args .s .busy .destination) 32 (c .good .0 .1 .1 .1 .1 .1 .1 .1 .0 .1 .1 .1 .0 .1 .0 .1) };
+      queues = queues;
+      queue = λ t l. each-at _ _ (λ q. length (q .jobs) ≡ 32) (λ q vs h. length-unmapped ℕ (q .jobs) 32 (h .1 .1 .0 .1 .0 .1)) (c .args .s .queues) _ (c .good .0 .1 .1 .1 .1 .1 .1 .1 .1 .0 .1 .1) t zeroList (rw queues l);
+      arrivals = length-unmapped ℕ (c .args .s .arrivals .jobs) 32 (c .good .0 .1 .1 .1 .1 .1 .1 .1 .1 .1 .0 .1 .1 .0 .1 .0 .1);
+      jobs = record {
+        present = length-unmapped Bool (c .args .s .jobs .present) 32 (c .good .0 .1 .1 .1 .1 .1 .1 .1 .1 .1 .1 .0 .1 .1 .0 .1 .0 .1);
+        transport = length-unmapped ℕ (c .args .s .jobs .transport) 32 (c .good .0 .1 .1 .1 .1 .1 .1 .1 .1 .1 .1 .0 .1 .1 .1 .0 .1 .0 .1);
+        n = length-unmapped ℕ (c .args .s .jobs .n) 32 (c .good .0 .1 .1 .1 .1 .1 .1 .1 .1 .1 .1 .0 .1 .1 .1 .1 .0 .1 .0 .1);
+        picked = length-unmapped ℕ (c .args .s .jobs .picked) 32 (c .good .0 .1 .1 .1 .1 .1 .1 .1 .1 .1 .1 .0 .1 .1 .1 .1 .1 .0 .1 .0 .1);
+        dropped = length-unmapped ℕ (c .args .s .jobs .dropped) 32 (c .good .0 .1 .1 .1 .1 .1 .1 .1 .1 .1 .1 .0 .1 .1 .1 .1 .1 .1 .0 .1 .0 .1);
+        sold = length-unmapped ℕ (c .args .s .jobs .sold) 32 (c .good .0 .1 .1 .1 .1 .1 .1 .1 .1 .1 .1 .0 .1 .1 .1 .1 .1 .1 .1 .0 .1 .0 .1);
+        parent = length-unmapped ℕ (c .args .s .jobs .parent) 32 (c .good .0 .1 .1 .1 .1 .1 .1 .1 .1 .1 .1 .0 .1 .1 .1 .1 .1 .1 .1 .1 .0 .1 .0 .1);
+        preempted = length-unmapped Bool (c .args .s .jobs .preempted) 32 (c .good .0 .1 .1 .1 .1 .1 .1 .1 .1 .1 .1 .0 .1 .1 .1 .1 .1 .1 .1 .1 .1 .0 .1 .0 .1);
+        arrival = length-unmapped ℕ (c .args .s .jobs .arrival) 32 (c .good .0 .1 .1 .1 .1 .1 .1 .1 .1 .1 .1 .0 .1 .1 .1 .1 .1 .1 .1 .1 .1 .1 .0 .1 .0 .1);
+        overtakers = length-unmapped ℕ (c .args .s .jobs .overtakers) 32 (c .good .0 .1 .1 .1 .1 .1 .1 .1 .1 .1 .1 .0 .1 .1 .1 .1 .1 .1 .1 .1 .1 .1 .1 .0 .1 .0 .1);
+        turn = length-unmapped ℕ (c .args .s .jobs .turn) 32 (c .good .0 .1 .1 .1 .1 .1 .1 .1 .1 .1 .1 .0 .1 .1 .1 .1 .1 .1 .1 .1 .1 .1 .1 .1 .0 .1 .0 .1);
+        places = length-unmapped ℕ (c .args .s .jobs .places) 32 (c .good .0 .1 .1 .1 .1 .1 .1 .1 .1 .1 .1 .0 .1 .1 .1 .1 .1 .1 .1 .1 .1 .1 .1 .1 .1 .0 .1 .0 .1);
+        order = length-unmapped ℕ (c .args .s .jobs .order) 1024 (c .good .0 .1 .1 .1 .1 .1 .1 .1 .1 .1 .1 .0 .1 .1 .1 .1 .1 .1 .1 .1 .1 .1 .1 .1 .1 .1 .0 .1 .0 .1);
+      };
+      entries = record {
+        kind = length-unmapped ℕ (c .args .s .entries .kind) 512 (c .good .0 .1 .1 .1 .1 .1 .1 .1 .1 .1 .1 .1 .0 .1 .1 .0 .1 .0 .1);
+        job = length-unmapped ℕ (c .args .s .entries .job) 512 (c .good .0 .1 .1 .1 .1 .1 .1 .1 .1 .1 .1 .1 .0 .1 .1 .1 .0 .1 .0 .1);
+        destination = length-unmapped ℕ (c .args .s .entries .destination) 512 (c .good .0 .1 .1 .1 .1 .1 .1 .1 .1 .1 .1 .1 .0 .1 .1 .1 .1 .0 .1 .0 .1);
+        ticket = length-unmapped ℕ (c .args .s .entries .ticket) 512 (c .good .0 .1 .1 .1 .1 .1 .1 .1 .1 .1 .1 .1 .0 .1 .1 .1 .1 .1 .0 .1 .0 .1);
+      };
+    }
+
+-- the refusals have passed
+accepted : (c : tie.Else2) → reportRefusal (c .before .before .before .before .before .args .s) (c .before .before .before .before .before .args .now) (c .before .before .before .before .before .args .entry) (c .before .before .before .before .before .args .ticket) (c .before .before .before .before .before .args .list .now) ≡ 0
+accepted c = sym (c .before .refusal .ensures (c .before .before .before .before .before .args .list .now) refl) ∙ c .if2 .left
+
+can : (c : tie.Else2) → CanReport (c .before .before .before .before .before .args .s) (c .before .before .before .before .before .args .now) (c .before .before .before .before .before .args .entry) (length (c .before .before .before .before .before .args .list .now))
+can c = report-can (c .before .before .before .before .before .args .s) (c .before .before .before .before .before .args .now) (c .before .before .before .before .before .args .entry) (c .before .before .before .before .before .args .ticket) (c .before .before .before .before .before .args .outcome) (c .before .before .before .before .before .args .list .now) (accepted c)
+
+asks : (c : tie.Else2) → ReportAsks (c .before .before .before .before .before .args .s) (c .before .before .before .before .before .args .now) (c .before .before .before .before .before .args .entry) (length (c .before .before .before .before .before .args .list .now))
+asks c = report-asks (c .before .before .before .before .before .args .s) (c .before .before .before .before .before .args .now) (c .before .before .before .before .before .args .entry) (length (c .before .before .before .before .before .args .list .now)) (shape (c .before .before .before .before .before)) (can c)
+
 sound-requires : tie.Need-sound-requires
 sound-requires c κs = search needs
 
--- src/lib.rt:131:9
 returns : tie.Need-returns
 returns c = report-unsound (c .before .before .before .args .s) (c .before .before .before .args .now) (c .before .before .before .args .entry) (c .before .before .before .args .ticket) (c .before .before .before .args .outcome) (c .before .before .before .args .list .now) (sym (c .before .sound .ensures) ∙ not-true _ (c .if1 .taken))
 
--- src/lib.rt:136:9
 refusal-requires : tie.Need-refusal-requires
 refusal-requires c κs = (sym (c .before .sound .ensures) ∙ not-false _ (c .if1 .left))
 
--- src/lib.rt:138:9
 returns-2 : tie.Need-returns-2
 returns-2 c = report-refused (c .before .before .before .before .before .args .s) (c .before .before .before .before .before .args .now) (c .before .before .before .before .before .args .entry) (c .before .before .before .before .before .args .ticket) (c .before .before .before .before .before .args .outcome) (c .before .before .before .before .before .args .list .now) (c .before .refusal .result) (c .before .refusal .ensures (c .before .before .before .before .before .args .list .now) refl) (c .if2 .taken)
 
--- src/lib.rt:143:5
-report-requires : tie.Need-report-requires
-report-requires c κs = report-can (c .before .before .before .before .before .before .args .s) (c .before .before .before .before .before .before .args .now) (c .before .before .before .before .before .before .args .entry) (c .before .before .before .before .before .before .args .ticket) (c .before .before .before .before .before .before .args .outcome) (c .before .before .before .before .before .before .args .list .now) (sym (c .before .before .refusal .ensures (c .before .before .before .before .before .before .args .list .now) refl) ∙ (c .before .if2 .left))
+cast-next : tie.Need-cast-next
+cast-next c = record { fits = omega (arith, (can c) .early) }
 
--- src/lib.rt:120:1
+wake-requires : tie.Need-wake-requires
+wake-requires c κs = asks (c .before .before) .setup
+
+array-read-to : tie.Need-array-read-to
+array-read-to c = (can (c .before .before .before .before .before)) .inside
+
+cast-d : tie.Need-cast-d
+cast-d c = omega (arith, asks (c .before .before .before .before .before) .destination)
+
+mul-t : tie.Need-mul-t
+mul-t c = omega (arith, asks (c .before .before .before .before .before) .destination)
+
+element-copy-out-t : tie.Need-element-copy-out-t
+element-copy-out-t c = asks (c .before .before .before .before .before) .destination
+
+mul-g : tie.Need-mul-g
+mul-g c = omega (arith, asks (c .before .before .before .before .before .before) .transport)
+
+element-copy-out-g : tie.Need-element-copy-out-g
+element-copy-out-g c = asks (c .before .before .before .before .before .before) .transport
+
+mul-x : tie.Need-mul-x
+mul-x c = omega (arith, asks (c .before .before .before .before .before .before .before) .destination)
+
+array-copy-out-x : tie.Need-array-copy-out-x
+array-copy-out-x c = asks (c .before .before .before .before .before .before .before) .destination
+
+mul-many : tie.Need-mul-many
+mul-many c = omega (arith, asks (c .before .before .before .before .before .before .before .before .before) .destination)
+
+element-copy-out-many : tie.Need-element-copy-out-many
+element-copy-out-many c = asks (c .before .before .before .before .before .before .before .before .before) .destination
+
+cast-many : tie.Need-cast-many
+cast-many c = omega (arith, asks (c .before .before .before .before .before .before .before .before .before .before) .few)
+
+step-requires : tie.Need-step-requires
+step-requires c κs = step-asks (c .before .before .before .before .before .before .before .before .before .before .before .before .before .before .before .args .s) (c .before .before .before .before .before .before .before .before .before .before .before .before .before .before .before .args .now) (c .before .before .before .before .before .before .before .before .before .before .before .before .before .before .before .args .entry) (length (c .before .before .before .before .before .before .before .before .before .before .before .before .before .before .before .args .list .now)) (shape (c .before .before .before .before .before .before .before .before .before .before .before .before .before .before .before)) (can (c .before .before .before .before .before .before .before .before .before .before)) (c .before .before .before .before .before .before .before .wake .ensures)
+
+mul-ds : tie.Need-mul-ds
+mul-ds c = omega (arith, asks (c .before .before .before .before .before .before .before .before .before .before .before) .destination)
+
+array-set-from-ds : tie.Need-array-set-from-ds
+array-set-from-ds c = asks (c .before .before .before .before .before .before .before .before .before .before .before) .destination
+
+mul-busy : tie.Need-mul-busy
+mul-busy c = omega (arith, asks (c .before .before .before .before .before .before .before .before .before .before .before) .transport)
+
+element-copy-out-busy : tie.Need-element-copy-out-busy
+element-copy-out-busy c = asks (c .before .before .before .before .before .before .before .before .before .before .before) .transport
+
+sub-busy : tie.Need-sub-busy
+sub-busy c = asks (c .before .before .before .before .before .before .before .before .before .before .before .before) .busyTransport
+
+element-write-busy : tie.Need-element-write-busy
+element-write-busy c = asks (c .before .before .before .before .before .before .before .before .before .before .before .before) .transport
+
+mul-busy-2 : tie.Need-mul-busy-2
+mul-busy-2 c = omega (arith, asks (c .before .before .before .before .before .before .before .before .before .before .before .before) .destination)
+
+element-copy-out-busy-2 : tie.Need-element-copy-out-busy-2
+element-copy-out-busy-2 c = asks (c .before .before .before .before .before .before .before .before .before .before .before .before) .destination
+
+sub-busy-2 : tie.Need-sub-busy-2
+sub-busy-2 c = asks (c .before .before .before .before .before .before .before .before .before .before .before .before .before) .busyDestination
+
+element-write-busy-2 : tie.Need-element-write-busy-2
+element-write-busy-2 c = asks (c .before .before .before .before .before .before .before .before .before .before .before .before .before) .destination
+
+is-live-requires : tie.Need-is-live-requires
+is-live-requires c κs = search needs
+
+is-live-requires-2 : tie.Need-is-live-requires-2
+is-live-requires-2 c κs = search needs
+
+put-off-requires : tie.Need-put-off-requires
+put-off-requires c κs = put-off-asks (c .before .before .before .before .before .before .before .before .before .before .before .before .before .before .before .before .before .before .before .before .before .before .before .before .before .before .before .args .s) (c .before .before .before .before .before .before .before .before .before .before .before .before .before .before .before .before .before .before .before .before .before .before .before .before .before .before .before .args .now) (c .before .before .before .before .before .before .before .before .before .before .before .before .before .before .before .before .before .before .before .before .before .before .before .before .before .before .before .args .entry) (length (c .before .before .before .before .before .before .before .before .before .before .before .before .before .before .before .before .before .before .before .before .before .before .before .before .before .before .before .args .list .now)) (shape (c .before .before .before .before .before .before .before .before .before .before .before .before .before .before .before .before .before .before .before .before .before .before .before .before .before .before .before)) (can (c .before .before .before .before .before .before .before .before .before .before .before .before .before .before .before .before .before .before .before .before .before .before)) (c .before .before .before .before .before .before .before .before .before .before .before .before .before .before .before .before .before .before .before .before .before .before .before .before .before .before .before .args .list .now) refl
+
+free-requires : tie.Need-free-requires
+free-requires c κs = (can (c .before .before .before .before .before .before .before .before .before .before .before .before .before .before .before .before .before .before .before .before .before .before .before .before .before .before)) .inside
+
+staying-requires : tie.Need-staying-requires
+staying-requires c κs = search needs
+
+adopt-requires : tie.Need-adopt-requires
+adopt-requires c κs = adopt-asks (c .before .before .before .before .before .before .before .before .before .before .before .before .before .before .before .before .before .before .before .before .before .before .before .before .before .before .before .before .before .before .before .before .before .before .before .before .before .before .before .before .before .args .s) (c .before .before .before .before .before .before .before .before .before .before .before .before .before .before .before .before .before .before .before .before .before .before .before .before .before .before .before .before .before .before .before .before .before .before .before .before .before .before .before .before .before .args .now) (c .before .before .before .before .before .before .before .before .before .before .before .before .before .before .before .before .before .before .before .before .before .before .before .before .before .before .before .before .before .before .before .before .before .before .before .before .before .before .before .before .before .args .entry) (length (c .before .before .before .before .before .before .before .before .before .before .before .before .before .before .before .before .before .before .before .before .before .before .before .before .before .before .before .before .before .before .before .before .before .before .before .before .before .before .before .before .before .args .list .now)) (shape (c .before .before .before .before .before .before .before .before .before .before .before .before .before .before .before .before .before .before .before .before .before .before .before .before .before .before .before .before .before .before .before .before .before .before .before .before .before .before .before .before .before)) (can (c .before .before .before .before .before .before .before .before .before .before .before .before .before .before .before .before .before .before .before .before .before .before .before .before .before .before .before .before .before .before .before .before .before .before .before .before)) (c .before .before .before .before .before .before .before .before .before .free .last .0) (c .before .before .staying .ensures)
+
+queue-of-requires : tie.Need-queue-of-requires
+queue-of-requires c κs = asks (c .before .before .before .before .before .before .before .before .before .before .before .before .before .before .before .before .before .before .before .before .before .before .before .before .before .before .before .before .before .before .before .before .before .before .before .before .before .before) .transport
+
+keep-requires : tie.Need-keep-requires
+keep-requires c κs = (subst (λ (q : JobList). q .count ≤ 32) (sym (c .before .queue-of .ensures)) (asks (c .before .before .before .before .before .before .before .before .before .before .before .before .before .before .before .before .before .before .before .before .before .before .before .before .before .before .before .before .before .before .before .before .before .before .before .before .before .before .before .before) .queue), ap length (c .before .before .before .before .before .before .staying .ensures) ∙ length-table _ 32)
+
+mul-queues : tie.Need-mul-queues
+mul-queues c = omega (arith, asks (c .before .before .before .before .before .before .before .before .before .before .before .before .before .before .before .before .before .before .before .before .before .before .before .before .before .before .before .before .before .before .before .before .before .before .before .before .before .before .before .before .before) .transport)
+
+array-set-from-queues : tie.Need-array-set-from-queues
+array-set-from-queues c = asks (c .before .before .before .before .before .before .before .before .before .before .before .before .before .before .before .before .before .before .before .before .before .before .before .before .before .before .before .before .before .before .before .before .before .before .before .before .before .before .before .before .before) .transport
+
+keep-requires-2 : tie.Need-keep-requires-2
+keep-requires-2 c κs = (asks (c .before .before .before .before .before .before .before .before .before .before .before .before .before .before .before .before .before .before .before .before .before .before .before .before .before .before .before .before .before .before .before .before .before .before .before .before .before .before .before .before .before .before .before) .arrivals, ap length (c .before .before .before .before .before .before .before .before .before .staying .ensures) ∙ length-table _ 32)
+
 same-length : tie.Need-same-length
 same-length c = search needs
 
--- src/lib.rt:120:1
 returns-3 : tie.Need-returns-3
-returns-3 c = report-made (c .before .before .before .before .before .before .before .before .before .args .s) (c .before .before .before .before .before .before .before .before .before .args .now) (c .before .before .before .before .before .before .before .before .before .args .entry) (c .before .before .before .before .before .before .before .before .before .args .ticket) (c .before .before .before .before .before .before .before .before .before .args .outcome) (c .before .before .before .before .before .before .before .before .before .args .list .now) _ (sym (c .before .before .before .before .before .refusal .ensures (c .before .before .before .before .before .before .before .before .before .args .list .now) refl) ∙ (c .before .before .before .before .if2 .left)) (c .before .before .report .ensures)
+returns-3 c = report-made (c .before .before .before .before .before .before .before .before .before .before .before .before .before .before .before .before .before .before .before .before .before .before .before .before .before .before .before .before .before .before .before .before .before .before .before .before .before .before .before .before .before .before .before .before .before .before .before .before .before .args .s) (c .before .before .before .before .before .before .before .before .before .before .before .before .before .before .before .before .before .before .before .before .before .before .before .before .before .before .before .before .before .before .before .before .before .before .before .before .before .before .before .before .before .before .before .before .before .before .before .before .before .args .now) (c .before .before .before .before .before .before .before .before .before .before .before .before .before .before .before .before .before .before .before .before .before .before .before .before .before .before .before .before .before .before .before .before .before .before .before .before .before .before .before .before .before .before .before .before .before .before .before .before .before .args .entry) (c .before .before .before .before .before .before .before .before .before .before .before .before .before .before .before .before .before .before .before .before .before .before .before .before .before .before .before .before .before .before .before .before .before .before .before .before .before .before .before .before .before .before .before .before .before .before .before .before .before .args .ticket) (c .before .before .before .before .before .before .before .before .before .before .before .before .before .before .before .before .before .before .before .before .before .before .before .before .before .before .before .before .before .before .before .before .before .before .before .before .before .before .before .before .before .before .before .before .before .before .before .before .before .args .outcome) (c .before .before .before .before .before .before .before .before .before .before .before .before .before .before .before .before .before .before .before .before .before .before .before .before .before .before .before .before .before .before .before .before .before .before .before .before .before .before .before .before .before .before .before .before .before .before .before .before .before .args .list .now) _ (accepted (c .before .before .before .before .before .before .before .before .before .before .before .before .before .before .before .before .before .before .before .before .before .before .before .before .before .before .before .before .before .before .before .before .before .before .before .before .before .before .before .before .before .before .before .before))
+    (report-is (c .before .before .before .before .before .before .before .before .before .before .before .before .before .before .before .before .before .before .before .before .before .before .before .before .before .before .before .before .before .before .before .before .before .before .before .before .before .before .before .before .before .before .before .before .before .before .before .before .before .args .s) (c .before .before .before .before .before .before .before .before .before .before .before .before .before .before .before .before .before .before .before .before .before .before .before .before .before .before .before .before .before .before .before .before .before .before .before .before .before .before .before .before .before .before .before .before .before .before .before .before .before .args .now) (c .before .before .before .before .before .before .before .before .before .before .before .before .before .before .before .before .before .before .before .before .before .before .before .before .before .before .before .before .before .before .before .before .before .before .before .before .before .before .before .before .before .before .before .before .before .before .before .before .before .args .entry) (c .before .before .before .before .before .before .before .before .before .before .before .before .before .before .before .before .before .before .before .before .before .before .before .before .before .before .before .before .before .before .before .before .before .before .before .before .before .before .before .before .before .before .before .before .before .before .before .before .before .args .outcome) (shape (c .before .before .before .before .before .before .before .before .before .before .before .before .before .before .before .before .before .before .before .before .before .before .before .before .before .before .before .before .before .before .before .before .before .before .before .before .before .before .before .before .before .before .before .before .before .before .before .before .before)) (c .before .before .before .before .before .before .before .before .before .before .before .before .before .before .before .before .before .before .before .before .before .before .before .before .before .before .before .before .before .before .before .before .before .before .before .before .before .before .before .before .before .wake .ensures) (c .before .before .before .before .before .before .before .before .before .before .before .before .before .before .before .before .before .before .before .before .before .before .before .before .before .before .before .before .before .before .before .before .before .step .ensures) (c .before .before .before .before .before .before .before .before .before .before .before .before .before .before .before .before .before .before .before .before .before .before .before .before .before .before .before .before .before .before .is-live .ensures) (c .before .before .before .before .before .before .before .before .before .before .before .before .before .before .before .before .before .before .before .before .before .before .before .before .before .before .before .before .before .is-live2 .ensures) (c .before .before .before .before .before .before .before .before .before .before .before .before .before .before .before .before .before .before .before .before .before .put-off .ensures)
+    (c .before .before .before .before .before .before .before .before .before .before .before .before .before .before .before .before .before .free .ensures) (c .before .before .before .before .before .before .before .before .before .before .staying .ensures)
+    (c .before .before .before .before .before .before .before .adopt .ensures)
+    (c .before .before .before .keep .ensures ∙ ap (λ (q : JobList). listed (keep (λ j. getD (c .before .before .before .before .before .before .before .before .before .before .staying .result) j false) (listOf q))) (c .before .before .before .before .before .queue-of .ensures)) (c .keep2 .ensures))
 
 pub report-spec : {M : Type 1} → statement M
 report-spec =
@@ -46,6 +196,40 @@ report-spec =
     returns
     refusal-requires
     returns-2
-    report-requires
+    cast-next
+    wake-requires
+    array-read-to
+    cast-d
+    mul-t
+    element-copy-out-t
+    mul-g
+    element-copy-out-g
+    mul-x
+    array-copy-out-x
+    mul-many
+    element-copy-out-many
+    cast-many
+    step-requires
+    mul-ds
+    array-set-from-ds
+    mul-busy
+    element-copy-out-busy
+    sub-busy
+    element-write-busy
+    mul-busy-2
+    element-copy-out-busy-2
+    sub-busy-2
+    element-write-busy-2
+    is-live-requires
+    is-live-requires-2
+    put-off-requires
+    free-requires
+    staying-requires
+    adopt-requires
+    queue-of-requires
+    keep-requires
+    mul-queues
+    array-set-from-queues
+    keep-requires-2
     same-length
     returns-3)
