@@ -1,6 +1,6 @@
 -- The first number so far that passes a test, 512 while there is none, in a table over many tests.
 use Prim.Native.Nat.{ℕ, _+_, _≤_, _<_}
-use mathlib.Core.Bool.{Bool, true, false, _&&_}
+use mathlib.Core.Bool.{Bool, true, false, _&&_, and-true}
 use mathlib.Core.Path.{_≡_, refl, sym, _∙_, ap, subst}
 use mathlib.Core.Logic.{_≢_, _⊎_, inl, inr}
 use mathlib.Core.List.{List}
@@ -64,11 +64,24 @@ module _ {kind job destination : List ℕ} {room : List Bool} {j : ℕ} {first :
   unfolding readyTo
   to-not d f = and-left-false (eqb (at destination e) d) f
 
-  -- the test that the loop makes, with the destination read as d
-  pub looked-test : (d : ℕ) → d ≡ at destination e
-      → ((eqb (at kind e) 1 && getD room d false) && eqb (at job e) j) && eqb (at first d) 512 ≡ readyIn kind job destination room j e && eqb (at first d) 512
+  -- the test that the loop makes of an entry of job j, with the destination read as d
+  pub looked-test : at job e ≡ j → (d : ℕ) → d ≡ at destination e
+      → (eqb (at kind e) 1 && getD room d false) && eqb (at first d) 512 ≡ readyIn kind job destination room j e && eqb (at first d) 512
   unfolding readyIn
-  looked-test d q = ap (λ x. ((eqb (at kind e) 1 && getD room x false) && eqb (at job e) j) && eqb (at first d) 512) q
+  looked-test o d q =
+      ap (λ x. x && eqb (at first d) 512)
+      (ap (λ x. eqb (at kind e) 1 && getD room x false) q
+      ∙ sym (ap (λ x. (eqb (at kind e) 1 && getD room (at destination e) false) && x) (eq-eqb (at job e) j o) ∙ and-true (eqb (at kind e) 1 && getD room (at destination e) false)))
+
+  -- an entry of another job
+  pub looked-skip : e < 512 → at job e ≢ j → Looked kind job destination room j first (e + 1)
+  unfolding readyIn
+  looked-skip l ne =
+      record {
+        bound = omega arith;
+        long = r .long;
+        each = λ k m. stays (readyTo kind job destination room j k) e (at first k) (r .each k m) (λ z. to-not k (and-right-false (eqb (at kind e) 1 && getD room (at destination e) false) (ne-eqb (at job e) j ne)));
+      }
 
   pub looked-hit : e < 512 → (d : ℕ) → d ≡ at destination e → d < 256 → readyIn kind job destination room j e && eqb (at first d) 512 ≡ true → Looked kind job destination room j (set first d e) (e + 1)
   looked-hit l d q below t =

@@ -8,10 +8,11 @@ use native.Mathlib.Nat.{mod-lt}
 use native.Mathlib.Omega.{arith}
 use lib.Dec.{eqb, ltb}
 use lib.ListN.{getD}
-use borrow.Author.Tests.{ltb-true, lt-ltb, eq-eqb}
+use borrow.Author.Tests.{ltb-true, lt-ltb, eqb-true, eq-eqb}
 use Rattle.laws.specs.Range.{anyTo, countTo, firstTo}
 use Rattle.laws.specs.Sequence.{holds, firstOf, upTo}
-use Rattle.laws.proofs.Choice.{case-bool, bool-same, and-both}
+use Rattle.laws.proofs.Choice.{case-bool, bool-same, true-not-false, and-both, and-left, and-right}
+use Rattle.laws.proofs.Count.{count-none}
 use Rattle.laws.proofs.All.{any-of, any-witness, any-same}
 use Rattle.laws.proofs.First.{first-same, first-any}
 use Rattle.laws.proofs.Found.{first-of-cases, first-of-same, up-to-in}
@@ -21,16 +22,38 @@ use Rattle.rules.specs.State.{at, transportOf, queueOf, isWaiting, jobOf, desti
 use Rattle.rules.specs.SoundFacts.{Sound}
 use Rattle.rules.specs.Picking.{hasRoom, hasAgent, eligible, eligibleOn, eligibleOf, eligibleTo, hasEligible, stepsTo, transportSteps, finds, nextTransport, currentJob, passedOver, nextPlace, nextEntry}
 use Rattle.rules.proofs.Shape.{Shaped}
-use Rattle.rules.proofs.EntryFacts.{waiting-used, eligible-of-eligible, eligible-of-job, eligible-sound}
+use Rattle.rules.proofs.EntryFacts.{present-below, waiting-used, eligible-of-eligible, eligible-of-job, eligible-sound}
 use Rattle.rules.proofs.Turns.{steps-found}
 use Rattle.rules.proofs.Picked.{queue-job, TransportFound, transport-found, Current, current-found, next-found}
-use Rattle.choice.specs.Columns.{isOpen, waitsIn, readyIn, readyTo}
+use Rattle.choice.specs.Columns.{isOpen, waitsIn, readyIn, readyTo, Adds}
 use Rattle.choice.specs.Facts.{Reads, frontOf, aheadOf, hasFront, frontSteps, Turned, hasFirst, Placed}
 
 -- turns that ask the same
 pub steps-same : (p q : ℕ → Bool) (n start : ℕ) → ((k : ℕ) → k < n → p k ≡ q k) → stepsTo p n start ≡ stepsTo q n start
 unfolding stepsTo
 steps-same p q n start h = first-same (λ i. p ((start + i) % n)) (λ i. q ((start + i) % n)) n λ i l. h ((start + i) % n) (mod-lt (start + i) (omega arith))
+
+-- what waits of a job is its n less the picked and the dropped
+module _ (w : State) (shape : Shaped w) (h : Sound w) where
+  of-present : (j e : ℕ) → e < 512 → waitsIn (w .entries .kind) (w .entries .job) j e ≡ true → isPresent w j ≡ true
+  unfolding waitsIn
+  of-present j e l t =
+      subst (λ x. isPresent w x ≡ true) (eqb-true (jobOf w e) j (and-right (isWaiting w e) (eqb (jobOf w e) j) t))
+      (h .entries e l (waiting-used w e (and-left (isWaiting w e) (eqb (jobOf w e) j) t)) .present)
+
+  none-waits : (j : ℕ) → (isPresent w j ≡ true → ⊥) → countTo (waitsIn (w .entries .kind) (w .entries .job) j) 512 ≡ 0
+  none-waits j away =
+      count-none (waitsIn (w .entries .kind) (w .entries .job) j) 512
+      (λ e l. case-bool (waitsIn (w .entries .kind) (w .entries .job) j e) (λ t. absurd (away (of-present j e l t))) (λ f. f))
+
+  pub adds-read : Adds (w .jobs) (w .entries .kind) (w .entries .job)
+  unfolding waitingOf waitsOf waitsIn
+  adds-read =
+      record {
+        present = λ j l p. h .jobs j l p .adds;
+        absent = λ j l f. none-waits j (λ t. true-not-false t f);
+        others = λ j l. none-waits j (λ t. omega (arith, present-below w shape j t));
+      }
 
 module _ (w : State) (h : Sound w) (room : List Bool) (rooms : (d : ℕ) → d < w .setup .destinations → getD room d false ≡ isOpen (w .destinations) (w .busy) (w .setup) d) where
   -- the table of rooms finds the eligible entries

@@ -1,4 +1,4 @@
--- One step of a loop that fills a table, or counts, asks or looks for the first into one.
+-- One step of a loop that fills a table, or asks into one.
 use Prim.Native.Nat.{ℕ, _+_, _<_}
 use mathlib.Core.Bool.{Bool, true, false, _||_, or-false}
 use mathlib.Core.Path.{_≡_, sym, _∙_, ap, ap₂}
@@ -6,9 +6,8 @@ use mathlib.Core.Logic.{_≢_}
 use mathlib.Core.List.{List}
 use native.Mathlib.Omega.{arith}
 use lib.ListN.{length, getD, set}
-use Rattle.laws.specs.Range.{anyTo, countTo}
+use Rattle.laws.specs.Range.{anyTo}
 use Rattle.laws.proofs.All.{any-step}
-use Rattle.laws.proofs.Count.{count-hit, count-miss}
 use Rattle.laws.proofs.Columns.{set-all}
 
 -- a table filled up to i, one place further
@@ -16,18 +15,8 @@ pub table-more {ℓ} : {A : Type ℓ} (f : ℕ → A) (l : List A) (i : ℕ) (v 
 table-more f l i v d h old new =
     set-all (λ k x. k < i + 1 → x ≡ f k) l i v d h (λ m. new) (λ k ne m. old k (omega arith))
 
--- of each j, how many numbers below i pass its test; i passes that of j alone
+-- of each j, a test; i passes that of j alone
 module _ (p : ℕ → ℕ → Bool) (i n : ℕ) where
-  pub count-hits : (l : List ℕ) (j : ℕ) → j < length l → ((k : ℕ) → k < n → getD l k 0 ≡ countTo (p k) i) → j < n → p j i ≡ true → ((k : ℕ) → k ≢ j → p k i ≡ false)
-      → (k : ℕ) → k < n → getD (set l j (getD l j 0 + 1)) k 0 ≡ countTo (p k) (i + 1)
-  count-hits l j h old below hit miss =
-      set-all (λ k x. k < n → x ≡ countTo (p k) (i + 1)) l j (getD l j 0 + 1) 0 h
-      (λ m. ap (λ x. x + 1) (old j below) ∙ sym (count-hit (p j) i hit))
-      (λ k ne m. old k m ∙ sym (count-miss (p k) i (miss k ne)))
-
-  pub count-misses : (l : List ℕ) → ((k : ℕ) → k < n → getD l k 0 ≡ countTo (p k) i) → ((k : ℕ) → p k i ≡ false) → (k : ℕ) → k < n → getD l k 0 ≡ countTo (p k) (i + 1)
-  count-misses l old miss k m = old k m ∙ sym (count-miss (p k) i (miss k))
-
   -- whether some number below i passes the test of each j
   pub any-miss : (k : ℕ) → p k i ≡ false → anyTo (p k) i ≡ anyTo (p k) (i + 1)
   any-miss k f = sym (any-step (p k) i ∙ ap (λ x. anyTo (p k) i || x) f ∙ or-false (anyTo (p k) i))

@@ -2,16 +2,18 @@
 use rules::Busy;
 use rules::Destination;
 use rules::Health;
+use rules::Jobs;
 use rules::Setup;
 ghost use mathlib.Core.Path.{_≡_};
 ghost use mathlib.Core.Bool.{Bool, true, false, _&&_};
-ghost use Prim.Native.Nat.{ℕ, _<_, _≤_};
+ghost use Prim.Native.Nat.{ℕ, _+_, _-_, _<_, _≤_};
 ghost use lib.ListN.{length, getD};
 ghost use lib.Dec.{eqb, ltb};
+ghost use Rattle.laws.specs.Choice.{if_then_else_};
 ghost use Rattle.laws.specs.Range.{anyTo, countTo, firstTo};
 ghost use Rattle.rules.specs.State.{at, isLive, windowOf};
 ghost use Rattle.rules.specs.SoundFacts.{InRange};
-ghost use Rattle.choice.specs.Columns.{isOpen, waitsIn, readyIn, readyTo};
+ghost use Rattle.choice.specs.Columns.{isOpen, waitsIn, readyIn, readyTo, leftIn, Adds};
 
 // A byte as an index.
 pub fn wide(x: u8) -> usize
@@ -63,29 +65,54 @@ pub fn open_table(ds: [Destination; 32], busy: Busy, setup: Setup) -> [bool; 256
     table
 }
 
+// What waits of a job that is present: its n less the picked and the dropped.
+fn left_of(present: bool, n: u16, picked: u16, dropped: u16) -> u16
+    requires { ⌜ (present ≡ true → picked + dropped ≤ n) ⌝ }
+    ensures { λ r. ⌜ r ≡ (if present then n - (picked + dropped) else 0) ⌝ }
+{
+    if present { n - (picked + dropped) } else { 0 }
+}
+
+// The same of each job number.
+fn left_waiting(jobs: Jobs) -> [u16; 256]
+    requires { ⌜ ((j : ℕ) → j < 32 → getD (jobs .present) j false ≡ true → at (jobs .picked) j + at (jobs .dropped) j ≤ at (jobs .n) j) ⌝ }
+    ensures jobs { λ r. ⌜ ((j : ℕ) → j < 32 → at r j ≡ leftIn jobs j) ⌝ }
+    ensures others { λ r. ⌜ ((j : ℕ) → 32 ≤ j → j < 256 → at r j ≡ 0) ⌝ }
+{
+    let mut waits = [0u16; 256];
+    let mut j: usize = 0;
+    while j < 32 {
+        waits[j] = left_of(jobs.present[j], jobs.n[j], jobs.picked[j], jobs.dropped[j]);
+        j += 1;
+    }
+    waits
+}
+
 // Of each job, how many entries wait, and whether one of them has a destination with room.
 pub struct Tally {
     pub waits: [u16; 256],
     pub ready: [bool; 256],
 }
 
+// Soundness gives that what waits can be told from the job's own counts, so that the pass over the entries has one thing to find.
 pub fn count_waiting<'a>(
+    jobs: Jobs,
     kind: &'a [u8; 512],
     job: &'a [u8; 512],
     destination: &'a [u8; 512],
     room: &[bool; 256],
 ) -> Tally
+    requires { ⌜ Adds jobs (now kind) (now job) ⌝ }
     ensures waits { λ r. ⌜ ((j : ℕ) → j < 256 → at (r .waits) j ≡ countTo (waitsIn (now (kind .entry)) (now (job .entry)) j) 512) ⌝ }
     ensures ready { λ r. ⌜ ((j : ℕ) → j < 256 → getD (r .ready) j false ≡ anyTo (readyIn (now (kind .entry)) (now (job .entry)) (now (destination .entry)) (now (room .entry)) j) 512) ⌝ }
 {
-    let mut waits = [0u16; 256];
+    let waits = left_waiting(jobs);
     let mut ready = [false; 256];
     let mut e: usize = 0;
     while e < 512 {
         if kind[e] == 1 {
             let j = wide(job[e]);
             let d = wide(destination[e]);
-            waits[j] = waits[j] + 1;
             ready[j] = ready[j] | room[d];
         }
         e += 1;
@@ -106,9 +133,11 @@ pub fn first_ready<'a>(
     let mut first = [512u16; 256];
     let mut e: usize = 0;
     while e < 512 {
-        let d = wide(destination[e]);
-        if (kind[e] == 1) & room[d] & (job[e] == j) & (first[d] == 512) {
-            first[d] = e as u16;
+        if job[e] == j {
+            let d = wide(destination[e]);
+            if (kind[e] == 1) & room[d] & (first[d] == 512) {
+                first[d] = e as u16;
+            }
         }
         e += 1;
     }

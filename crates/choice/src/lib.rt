@@ -57,7 +57,13 @@ pub fn choose(w: State, now: u64) -> Choice
     let jobs = w.jobs;
     let arrivals = w.arrivals;
     let room = open_table(destinations, busy, setup);
-    let tally = count_waiting(&entries.kind, &entries.job, &entries.destination, &room);
+    let tally = count_waiting(
+        jobs,
+        &entries.kind,
+        &entries.job,
+        &entries.destination,
+        &room,
+    );
     let turn = next_transport(queues, setup.transports, w.turn, &tally.waits, &tally.ready);
     if !turn.found {
         return Choice {

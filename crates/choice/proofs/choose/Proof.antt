@@ -17,7 +17,7 @@ use Rattle.choice.specs.Choosing.{waitingAt}
 use Rattle.choice.specs.Facts.{Reads}
 use Rattle.choice.proofs.Shapes.{length-mapped, each-at}
 use Rattle.choice.proofs.Credits.{index-fits, same-below}
-use Rattle.choice.proofs.Glue.{TurnRead, tally-reads, turn-read, not-found, first-read, has-first-read, placed-read}
+use Rattle.choice.proofs.Glue.{TurnRead, adds-read, tally-reads, turn-read, not-found, first-read, has-first-read, placed-read}
 use Rattle.choice.proofs.Chosen.{slots-read, arrived-read, sold-read, job-read, nothing-chosen, all-chosen}
 use Rattle.choice.proofs.choose.Statement.{statement}
 use Rattle.choice.proofs.choose.Tie as tie
@@ -100,7 +100,7 @@ open-table-requires : tie.Need-open-table-requires
 open-table-requires c κs = c .before .before .before .before .before .before .before .pre .0 .setup
 
 count-waiting-requires : tie.Need-count-waiting-requires
-count-waiting-requires c κs = tt
+count-waiting-requires c κs = adds-read (c .before .before .before .before .before .before .before .before .before .before .before .before .before .args .w) (shaped (c .before .before .before .before .before .before .before .before .before .before .before .before .before)) (c .before .before .before .before .before .before .before .before .before .before .before .before .before .pre .0)
 
 next-transport-requires : tie.Need-next-transport-requires
 next-transport-requires c κs = let h = c .before .before .before .before .before .before .before .before .before .before .before .before .before .before .before .before .before .pre .0 in (

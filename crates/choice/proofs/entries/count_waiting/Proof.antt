@@ -1,18 +1,20 @@
--- `choice::entries::count_waiting` meets its contract. Invariant: the tables hold what is counted below e (`Counted`). Measure: the entries left. Assumes nothing.
+-- `choice::entries::count_waiting` meets its contract. Invariant: the table holds what is found below e (`Counted`). Measure: the entries left. Assumes nothing.
 use Prim.Native.Nat.{_-_}
 use mathlib.Core.Path.{_≡_}
 use mathlib.Core.Logic.{⊎-elim}
 use native.Mathlib.Omega.{arith}
-use Rattle.rules.specs.State.{at}
-use Rattle.choice.proofs.Passes.{Counted, counted-hit, counted-miss, counted-none, counted-below, counted-is}
+use Rattle.choice.proofs.Passes.{Counted, counted-hit, counted-miss, counted-none, counted-is, left-is, fits-left}
 use Rattle.choice.proofs.entries.count_waiting.Statement.{statement}
 use Rattle.choice.proofs.entries.count_waiting.Tie as tie
 
 abbrev Inv-loop : tie.InvT-loop
-Inv-loop kind job destination room waits₀ ready₀ e₀ waits ready e = Counted kind job destination room waits ready e
+Inv-loop kind job destination room waits ready₀ e₀ ready e = Counted kind job destination room ready e
 
 abbrev μ-loop : tie.MeasureT-loop
-μ-loop kind job destination room waits₀ ready₀ e₀ waits ready e = 512 - e
+μ-loop kind job destination room waits ready₀ e₀ ready e = 512 - e
+
+left-waiting-requires : tie.Need-left-waiting-requires Inv-loop μ-loop
+left-waiting-requires c κs = fits-left (c .args .jobs) (c .args .kind .now) (c .args .job .now) (c .pre)
 
 loop-holds : tie.Need-loop-holds Inv-loop μ-loop
 loop-holds c = counted-none _ _ _ _
@@ -32,21 +34,6 @@ element-copy-out-wide-2 c = c .before .before .before .before .loop-test .taken
 wide-requires-2 : tie.Need-wide-requires-2 Inv-loop μ-loop
 wide-requires-2 c κs = tt
 
-mul-waits : tie.Need-mul-waits Inv-loop μ-loop
-mul-waits c = omega (arith, c .before .before .wide .ensures .1)
-
-array-read-waits : tie.Need-array-read-waits Inv-loop μ-loop
-array-read-waits c = c .before .before .wide .ensures .1
-
-add-waits : tie.Need-add-waits Inv-loop μ-loop
-add-waits c = omega (arith, counted-below (c .before .before .before .before .before .before .before .loop .inv) (c .before .before .wide .result) (c .before .before .wide .ensures .1))
-
-mul-waits-2 : tie.Need-mul-waits-2 Inv-loop μ-loop
-mul-waits-2 c = omega (arith, c .before .before .wide .ensures .1)
-
-array-write-waits : tie.Need-array-write-waits Inv-loop μ-loop
-array-write-waits c = c .before .before .wide .ensures .1
-
 array-read-ready : tie.Need-array-read-ready Inv-loop μ-loop
 array-read-ready c = c .before .before .wide .ensures .1
 
@@ -64,14 +51,15 @@ loop-less c = omega (arith, c .before .before .loop-test .taken)
 
 loop-again : tie.Need-loop-again Inv-loop μ-loop
 loop-again c = ⊎-elim
-    (λ w. counted-is (c .if1 .waits) (c .if1 .ready) (w .6) (w .7)
-    (counted-hit (c .before .before .before .loop .inv) (c .before .before .loop-test .taken) (w .0 .taken) (w .2 .result) (w .4 .result) (w .2 .ensures .0) (w .2 .ensures .1) (w .4 .ensures .0)))
-    (λ w. counted-is (c .if1 .waits) (c .if1 .ready) (w .1) (w .2) (counted-miss (c .before .before .before .loop .inv) (c .before .before .loop-test .taken) (w .0 .left)))
+    (λ w. counted-is (c .if1 .ready) (w .6) (counted-hit (c .before .before .before .loop .inv) (c .before .before .loop-test .taken) (w .0 .taken) (w .2 .result) (w .4 .result) (w .2 .ensures .0) (w .2 .ensures .1) (w .4 .ensures .0)))
+    (λ w. counted-is (c .if1 .ready) (w .1) (counted-miss (c .before .before .before .loop .inv) (c .before .before .loop-test .taken) (w .0 .left)))
     (c .if1 .came)
 
 returns : tie.Need-returns Inv-loop μ-loop
-returns c = let e : c .before .loop .e ≡ 512 = omega (arith, c .loop-test .left, c .before .loop .inv .bound) in
-    (rw e at (c .before .loop .inv .waits), rw e at (c .before .loop .inv .ready))
+returns c = let e : c .before .loop .e ≡ 512 = omega (arith, c .loop-test .left, c .before .loop .inv .bound) in (
+  left-is (c .before .before .before .args .jobs) (c .before .before .before .args .kind .now) (c .before .before .before .args .job .now) (c .before .before .before .pre) (c .before .before .left-waiting .result) (c .before .before .left-waiting .ensures .0) (c .before .before .left-waiting .ensures .1),
+  rw e at (c .before .loop .inv .ready),
+)
 
 pub count-waiting-spec : {M : Type 1} → statement M
 count-waiting-spec =
@@ -79,17 +67,13 @@ count-waiting-spec =
     (tie.spec
     Inv-loop
     μ-loop
+    left-waiting-requires
     loop-holds
     element-copy-out-if1
     element-copy-out-wide
     wide-requires
     element-copy-out-wide-2
     wide-requires-2
-    mul-waits
-    array-read-waits
-    add-waits
-    mul-waits-2
-    array-write-waits
     array-read-ready
     element-copy-out-ready
     array-write-ready
