@@ -42,7 +42,7 @@ put-decimal-slice-write-buf : (t : ℕ) → put-decimal-lts.Need-slice-write-buf
   put-decimal-below t,
   put-decimal.Post,
 ) (put-decimal-at t) put-decimal.Post
-put-decimal-slice-write-buf t c = omega (arith, digits-small (c .before .before .args .x) (c .if1 .taken), c .before .before .pre .1)
+put-decimal-slice-write-buf t c = omega (arith, digits-small (c .before .before .args .x) (omega arith), c .before .before .pre .1)
 
 -- src/lib.rt:30:9
 put-decimal-same-length : (t : ℕ) → put-decimal-lts.Need-same-length (
@@ -56,7 +56,7 @@ put-decimal-returns : (t : ℕ) → put-decimal-lts.Need-returns (
   put-decimal-below t,
   put-decimal.Post,
 ) (put-decimal-at t) put-decimal.Post
-put-decimal-returns t c = put-small _ _ (c .if1 .taken) (c .before .before .pre .1)
+put-decimal-returns t c = put-small (c .before .before .args .x) (c .before .before .args .buf .now) (omega arith) (c .before .before .pre .1)
 
 -- src/lib.rt:32:9
 put-decimal-put-decimal-requires : (t : ℕ) → put-decimal-lts.Need-put-decimal-requires (

@@ -24,7 +24,7 @@ loop-less : tie.Need-loop-less Inv-loop μ-loop
 loop-less c = omega arith
 
 loop-again : tie.Need-loop-again Inv-loop μ-loop
-loop-again c = (omega (arith, digits-more (c .before .loop .y) (c .loop-test .taken) (c .before .loop .inv .1)), omega arith)
+loop-again c = (omega (arith, digits-more (c .before .loop .y) (omega arith) (c .before .loop .inv .1)), omega arith)
 
 returns : tie.Need-returns Inv-loop μ-loop
 returns c = omega (arith, digits-small (c .before .loop .y) (omega arith))

@@ -14,16 +14,16 @@ use Rattle.leaving.proofs.nearest.Statement.{statement}
 use Rattle.leaving.proofs.nearest.Tie as tie
 
 abbrev Inv-loop : tie.InvT-loop
-Inv-loop stays parent link link₀ left₀ link' left = (leadsInside (at parent) left link' ≡ true) × (firstAlong (λ x. getD stays x false) (at parent) left link' ≡ nearestOf stays parent link)
+Inv-loop stays parent link link₀ left₀ link' left = (firstAlong (λ x. getD stays x false) (at parent) left link' ≡ nearestOf stays parent link) × (leadsInside (at parent) left link' ≡ true)
 
 abbrev μ-loop : tie.MeasureT-loop
 μ-loop stays parent link link₀ left₀ link' left = left
 
 loop-holds : tie.Need-loop-holds Inv-loop μ-loop
-loop-holds c = (c .pre, refl)
+loop-holds c = (refl, c .pre)
 
 returns : tie.Need-returns Inv-loop μ-loop
-returns c = sym (nearest-end _ _ _ _ (c .if1 .taken)) ∙ c .before .before .loop .inv .1
+returns c = sym (nearest-end _ _ _ _ (c .if1 .taken)) ∙ c .before .before .loop .inv .0
 
 wide-requires : tie.Need-wide-requires Inv-loop μ-loop
 wide-requires c κs = tt
@@ -32,13 +32,13 @@ sub-j : tie.Need-sub-j Inv-loop μ-loop
 sub-j c = omega arith
 
 element-copy-out-if2 : tie.Need-element-copy-out-if2 Inv-loop μ-loop
-element-copy-out-if2 c = omega (arith, leads-below _ _ _ (omega arith) (omega arith) (c .before .before .before .loop .inv .0))
+element-copy-out-if2 c = omega (arith, leads-below _ _ _ (omega arith) (omega arith) (c .before .before .before .loop .inv .1))
 
 returns-2 : tie.Need-returns-2 Inv-loop μ-loop
-returns-2 c = sym (nearest-here _ _ _ _ _ (omega arith) (omega arith) (c .before .before .wide .ensures) (c .if2 .taken)) ∙ c .before .before .before .before .before .loop .inv .1
+returns-2 c = sym (nearest-here _ _ _ _ _ (omega arith) (omega arith) (c .before .before .wide .ensures) (c .if2 .taken)) ∙ c .before .before .before .before .before .loop .inv .0
 
 element-copy-out-link : tie.Need-element-copy-out-link Inv-loop μ-loop
-element-copy-out-link c = omega (arith, leads-below _ _ _ (omega arith) (omega arith) (c .before .before .before .before .before .loop .inv .0))
+element-copy-out-link c = omega (arith, leads-below _ _ _ (omega arith) (omega arith) (c .before .before .before .before .before .loop .inv .1))
 
 sub-left : tie.Need-sub-left Inv-loop μ-loop
 sub-left c = omega arith
@@ -47,10 +47,10 @@ loop-less : tie.Need-loop-less Inv-loop μ-loop
 loop-less c = omega arith
 
 loop-again : tie.Need-loop-again Inv-loop μ-loop
-loop-again c = (rw (c .before .before .before .wide .ensures) (leads-next _ _ _ (omega arith) (omega arith) (c .before .before .before .before .before .before .loop .inv .0)), nearest-on (λ x. getD (c .before .before .before .before .before .before .before .args .stays .now) x false) (at (c .before .before .before .before .before .before .before .args .parent .now)) (c .before .before .before .before .before .before .loop .left) (c .before .before .before .before .before .before .loop .link) (c .before .before .before .wide .result) (omega arith) (omega arith) (c .before .before .before .wide .ensures) (c .before .if2 .left) ∙ c .before .before .before .before .before .before .loop .inv .1)
+loop-again c = (nearest-on (λ x. getD (c .before .before .before .before .before .before .before .args .stays .now) x false) (at (c .before .before .before .before .before .before .before .args .parent .now)) (c .before .before .before .before .before .before .loop .left) (c .before .before .before .before .before .before .loop .link) (c .before .before .before .wide .result) (omega arith) (omega arith) (c .before .before .before .wide .ensures) (c .before .if2 .left) ∙ c .before .before .before .before .before .before .loop .inv .0, rw (c .before .before .before .wide .ensures) (leads-next _ _ _ (omega arith) (omega arith) (c .before .before .before .before .before .before .loop .inv .1)))
 
 returns-3 : tie.Need-returns-3 Inv-loop μ-loop
-returns-3 c = sym (nearest-none _ _ _ _ (c .loop-test .left)) ∙ c .before .loop .inv .1
+returns-3 c = sym (nearest-none _ _ _ _ (c .loop-test .left)) ∙ c .before .loop .inv .0
 
 pub nearest-spec : {M : Type 1} → statement M
 nearest-spec =

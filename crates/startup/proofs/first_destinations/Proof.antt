@@ -18,7 +18,7 @@ zero-destination-requires : tie.Need-zero-destination-requires Inv-loop μ-loop
 zero-destination-requires c κs = search needs
 
 loop-holds : tie.Need-loop-holds Inv-loop μ-loop
-loop-holds c = (first-none _ _ (c .zero-destination .ensures), omega arith, in-range-facts _ (c .before .pre) .destinations .1)
+loop-holds c = (first-none _ _ (c .zero-destination .ensures), omega arith, omega (arith, in-range-facts _ (c .before .pre)))
 
 mul-t : tie.Need-mul-t Inv-loop μ-loop
 mul-t c = omega arith
@@ -27,10 +27,10 @@ element-copy-out-t : tie.Need-element-copy-out-t Inv-loop μ-loop
 element-copy-out-t c = omega arith
 
 mul-g : tie.Need-mul-g Inv-loop μ-loop
-mul-g c = omega (arith, home-below _ (c .before .before .before .before .pre) _ (c .before .loop-test .taken))
+mul-g c = omega (arith, home-below _ (c .before .before .before .before .pre) (c .before .before .loop .d) (omega arith))
 
 element-copy-out-g : tie.Need-element-copy-out-g Inv-loop μ-loop
-element-copy-out-g c = home-below _ (c .before .before .before .before .pre) _ (c .before .loop-test .taken)
+element-copy-out-g c = home-below _ (c .before .before .before .before .pre) (c .before .before .loop .d) (omega arith)
 
 first-state-requires : tie.Need-first-state-requires Inv-loop μ-loop
 first-state-requires c κs = search needs

@@ -18,7 +18,7 @@ abbrev μ-loop : tie.MeasureT-loop
 μ-loop now ds u next₀ count d₀ next d = count - d
 
 loop-holds : tie.Need-loop-holds Inv-loop μ-loop
-loop-holds c = (woken-none _ _ _, omega arith, in-range-facts _ (c .pre) .destinations .1, search needs)
+loop-holds c = (woken-none _ _ _, omega arith, omega (arith, in-range-facts _ (c .pre)), search needs)
 
 mul-x : tie.Need-mul-x Inv-loop μ-loop
 mul-x c = omega arith
@@ -36,10 +36,10 @@ element-copy-out-t : tie.Need-element-copy-out-t Inv-loop μ-loop
 element-copy-out-t c = omega arith
 
 mul-g : tie.Need-mul-g Inv-loop μ-loop
-mul-g c = omega (arith, home-below _ (c .before .before .before .before .before .before .pre) _ (c .before .before .before .before .loop-test .taken))
+mul-g c = omega (arith, home-below _ (c .before .before .before .before .before .before .pre) (c .before .before .before .before .before .loop .d) (omega arith))
 
 element-copy-out-g : tie.Need-element-copy-out-g Inv-loop μ-loop
-element-copy-out-g c = home-below _ (c .before .before .before .before .before .before .pre) _ (c .before .before .before .before .loop-test .taken)
+element-copy-out-g c = home-below _ (c .before .before .before .before .before .before .pre) (c .before .before .before .before .before .loop .d) (omega arith)
 
 first-state-requires : tie.Need-first-state-requires Inv-loop μ-loop
 first-state-requires c κs = search needs
