@@ -1,21 +1,22 @@
 -- One entry further in a pass over the entries.
 use Prim.Native.Nat.{ℕ, _+_, _-_, _≤_, _<_}
 use mathlib.Core.Bool.{Bool, true, false, _&&_, _||_, and-true}
-use mathlib.Core.Path.{_≡_, refl, sym, _∙_, ap, ap₂}
+use mathlib.Core.Path.{_≡_, refl, sym, _∙_, ap, ap₂, subst}
 use mathlib.Core.Logic.{_≢_}
 use mathlib.Core.List.{List}
 use native.Mathlib.Omega.{arith}
-use native.Mathlib.Decide.{decLt}
+use native.Mathlib.Decide.{decLt, ℕ-discrete}
 use lib.Dec.{eqb}
 use lib.ListN.{length, getD, set, replicate, length-set, getD-replicate}
 use borrow.Author.Tests.{eq-eqb, ne-eqb}
 use Rattle.laws.specs.Range.{anyTo, countTo}
 use Rattle.laws.specs.Choice.{if_then_else_}
+use Rattle.laws.proofs.All.{any-more}
 use Rattle.laws.proofs.Choice.{case-bool, and-both, and-left-false, and-right-false}
 use Rattle.rules.specs.declared.Jobs.{Jobs}
 use Rattle.rules.specs.State.{at}
 use Rattle.choice.specs.Columns.{waitsIn, readyIn, leftIn, Adds}
-use Rattle.choice.proofs.Steps.{any-hits, any-misses}
+use Rattle.choice.proofs.Steps.{any-miss, any-hits, any-misses}
 
 module _ (kind job destination : List ℕ) (room : List Bool) (e : ℕ) where
   -- an entry that does not wait
@@ -52,6 +53,25 @@ module _ {kind job destination : List ℕ} {room rs : List Bool} {e : ℕ} where
         bound = omega arith;
         readyLength = length-set rs j (getD rs j false || getD room d false) ∙ r .readyLength;
         ready = any-hits (readyIn kind job destination room) e 256 rs j (getD room d false) inr (r .ready) below (ready-own kind job destination room e k j d o to) (λ i ne. ready-other kind job destination room e j i o ne);
+      }
+
+  -- the table does not say yet that job j is ready, or says so already
+  pub counted-new : Counted kind job destination room rs e → e < 512 → at kind e ≡ 1 → (j d : ℕ) → j ≡ at job e → j < 256 → d ≡ at destination e → getD rs j false ≡ false
+      → Counted kind job destination room (set rs j (getD room d false)) (e + 1)
+  counted-new r l k j d o below to f =
+      subst (λ b. Counted kind job destination room (set rs j (b || getD room d false)) (e + 1)) f (counted-hit r l k j d o below to)
+
+  pub counted-known : Counted kind job destination room rs e → e < 512 → (j : ℕ) → j ≡ at job e → getD rs j false ≡ true → Counted kind job destination room rs (e + 1)
+  counted-known r l j o known =
+      record {
+        bound = omega arith;
+        readyLength = r .readyLength;
+        ready = λ i below. elim (ℕ-discrete i j) [
+          | yes q ↦ (
+              let t : getD rs i false ≡ true = ap (λ x. getD rs x false) q ∙ known in
+              t ∙ sym (any-more (readyIn kind job destination room i) {m = e} {n = e + 1} (omega arith) (sym (r .ready i below) ∙ t)))
+          | no ne ↦ r .ready i below ∙ any-miss (readyIn kind job destination room) e 256 i (ready-other kind job destination room e j i o ne)
+        ];
       }
 
   pub counted-miss : Counted kind job destination room rs e → e < 512 → at kind e ≢ 1 → Counted kind job destination room rs (e + 1)

@@ -112,8 +112,10 @@ pub fn count_waiting<'a>(
     while e < 512 {
         if kind[e] == 1 {
             let j = wide(job[e]);
-            let d = wide(destination[e]);
-            ready[j] = ready[j] | room[d];
+            if !ready[j] {
+                let d = wide(destination[e]);
+                ready[j] = room[d];
+            }
         }
         e += 1;
     }

@@ -3,7 +3,8 @@ use Prim.Native.Nat.{_-_}
 use mathlib.Core.Path.{_≡_}
 use mathlib.Core.Logic.{⊎-elim}
 use native.Mathlib.Omega.{arith}
-use Rattle.choice.proofs.Passes.{Counted, counted-hit, counted-miss, counted-none, counted-is, left-is, fits-left}
+use borrow.Author.Tests.{not-true, not-false}
+use Rattle.choice.proofs.Passes.{Counted, counted-new, counted-known, counted-miss, counted-none, counted-is, left-is, fits-left}
 use Rattle.choice.proofs.entries.count_waiting.Statement.{statement}
 use Rattle.choice.proofs.entries.count_waiting.Tie as tie
 
@@ -28,20 +29,20 @@ element-copy-out-wide c = c .before .before .loop-test .taken
 wide-requires : tie.Need-wide-requires Inv-loop μ-loop
 wide-requires c κs = tt
 
+array-read-if2 : tie.Need-array-read-if2 Inv-loop μ-loop
+array-read-if2 c = c .wide .ensures .1
+
 element-copy-out-wide-2 : tie.Need-element-copy-out-wide-2 Inv-loop μ-loop
-element-copy-out-wide-2 c = c .before .before .before .before .loop-test .taken
+element-copy-out-wide-2 c = c .before .before .before .before .before .loop-test .taken
 
 wide-requires-2 : tie.Need-wide-requires-2 Inv-loop μ-loop
 wide-requires-2 c κs = tt
-
-array-read-ready : tie.Need-array-read-ready Inv-loop μ-loop
-array-read-ready c = c .before .before .wide .ensures .1
 
 element-copy-out-ready : tie.Need-element-copy-out-ready Inv-loop μ-loop
 element-copy-out-ready c = c .wide2 .ensures .1
 
 array-write-ready : tie.Need-array-write-ready Inv-loop μ-loop
-array-write-ready c = c .before .before .before .wide .ensures .1
+array-write-ready c = c .before .before .before .before .wide .ensures .1
 
 add-e : tie.Need-add-e Inv-loop μ-loop
 add-e c = omega (arith, c .before .before .loop-test .taken)
@@ -51,8 +52,10 @@ loop-less c = omega (arith, c .before .before .loop-test .taken)
 
 loop-again : tie.Need-loop-again Inv-loop μ-loop
 loop-again c = ⊎-elim
-    (λ w. counted-is (c .if1 .ready) (w .6) (counted-hit (c .before .before .before .loop .inv) (c .before .before .loop-test .taken) (w .0 .taken) (w .2 .result) (w .4 .result) (w .2 .ensures .0) (w .2 .ensures .1) (w .4 .ensures .0)))
-    (λ w. counted-is (c .if1 .ready) (w .1) (counted-miss (c .before .before .before .loop .inv) (c .before .before .loop-test .taken) (w .0 .left)))
+    (λ w. counted-is (c .if1 .ready) (w .7) (counted-new (c .before .before .before .loop .inv) (c .before .before .loop-test .taken) (w .0 .taken) (w .2 .result) (w .5 .result) (w .2 .ensures .0) (w .2 .ensures .1) (w .5 .ensures .0) (not-true _ (w .3 .taken))))
+    (⊎-elim
+    (λ w. counted-is (c .if1 .ready) (w .4) (counted-known (c .before .before .before .loop .inv) (c .before .before .loop-test .taken) (w .2 .result) (w .2 .ensures .0) (not-false _ (w .3 .left))))
+    (λ w. counted-is (c .if1 .ready) (w .1) (counted-miss (c .before .before .before .loop .inv) (c .before .before .loop-test .taken) (w .0 .left))))
     (c .if1 .came)
 
 returns : tie.Need-returns Inv-loop μ-loop
@@ -72,9 +75,9 @@ count-waiting-spec =
     element-copy-out-if1
     element-copy-out-wide
     wide-requires
+    array-read-if2
     element-copy-out-wide-2
     wide-requires-2
-    array-read-ready
     element-copy-out-ready
     array-write-ready
     add-e
