@@ -1,20 +1,21 @@
 -- The tables and turns of the leaf functions are what the rules read of a sound state.
-use Prim.Native.Nat.{ℕ, _+_, _%_, _<_}
-use mathlib.Core.Bool.{Bool, true, false, _&&_}
+use Prim.Native.Nat.{ℕ, _+_, _*_, _%_, _≤_, _<_}
+use mathlib.Core.Bool.{Bool, true, false, _&&_, and-true}
 use mathlib.Core.Path.{_≡_, sym, _∙_, ap, subst}
 use mathlib.Core.Logic.{⊎-elim}
 use mathlib.Core.List.{List}
 use native.Mathlib.Nat.{mod-lt}
+use native.Mathlib.Decide.{decLt}
 use native.Mathlib.Omega.{arith}
 use lib.Dec.{eqb, ltb}
 use lib.ListN.{getD}
-use borrow.Author.Tests.{ltb-true, lt-ltb, eqb-true, eq-eqb}
+use borrow.Author.Tests.{ltb-true, lt-ltb, le-ltb, eqb-true, eq-eqb}
 use Rattle.laws.specs.Range.{anyTo, countTo, firstTo}
 use Rattle.laws.specs.Sequence.{holds, firstOf, upTo}
-use Rattle.laws.proofs.Choice.{case-bool, bool-same, true-not-false, and-both, and-left, and-right}
-use Rattle.laws.proofs.Count.{count-none}
-use Rattle.laws.proofs.All.{any-of, any-witness, any-same}
-use Rattle.laws.proofs.First.{first-same, first-any}
+use Rattle.laws.proofs.Choice.{case-bool, bool-same, true-not-false, false-of, and-both, and-left, and-right, and-left-false, and-right-false, eqb-self}
+use Rattle.laws.proofs.Count.{count-none, count-any}
+use Rattle.laws.proofs.All.{any-of, any-none, any-witness, any-same}
+use Rattle.laws.proofs.First.{first-same}
 use Rattle.laws.proofs.Found.{first-of-cases, first-of-same, up-to-in}
 use Rattle.laws.proofs.Sequence.{count-in-same}
 use Rattle.rules.specs.declared.State.{State}
@@ -25,8 +26,9 @@ use Rattle.rules.proofs.Shape.{Shaped}
 use Rattle.rules.proofs.EntryFacts.{present-below, waiting-used, eligible-of-eligible, eligible-of-job, eligible-sound}
 use Rattle.rules.proofs.Turns.{steps-found}
 use Rattle.rules.proofs.Picked.{queue-job, TransportFound, transport-found, Current, current-found, next-found}
-use Rattle.choice.specs.Columns.{isOpen, waitsIn, readyIn, readyTo, Adds}
-use Rattle.choice.specs.Facts.{Reads, frontOf, aheadOf, hasFront, frontSteps, Turned, hasFirst, Placed}
+use Rattle.soundness.specs.Columns.{tallyTo, Paired}
+use Rattle.choice.specs.Columns.{isOpen, waitsIn, Adds, openPair, openTo, waitsFor}
+use Rattle.choice.specs.Facts.{Reads, frontOf, aheadOf, hasFront, frontSteps, Turned, openPlace, Placed}
 
 -- turns that ask the same
 pub steps-same : (p q : ℕ → Bool) (n start : ℕ) → ((k : ℕ) → k < n → p k ≡ q k) → stepsTo p n start ≡ stepsTo q n start
@@ -55,46 +57,132 @@ module _ (w : State) (shape : Shaped w) (h : Sound w) where
         others = λ j l. none-waits j (λ t. omega (arith, present-below w shape j t));
       }
 
-module _ (w : State) (h : Sound w) (room : List Bool) (rooms : (d : ℕ) → d < w .setup .destinations → getD room d false ≡ isOpen (w .destinations) (w .busy) (w .setup) d) where
-  -- the table of rooms finds the eligible entries
-  pub eligible-read : (e : ℕ) → e < 512 → (isWaiting w e && getD room (destinationOf w e) false) ≡ eligible w e
-  unfolding eligible hasRoom hasAgent isOpen
-  eligible-read e l =
-      case-bool (isWaiting w e)
-      (λ t.
-      ap (λ b. b && getD room (destinationOf w e) false) t
-      ∙ rooms (destinationOf w e) (h .entries e l (waiting-used w e t) .destination)
-      ∙ sym (ap (λ b. (b && hasRoom w (destinationOf w e)) && hasAgent w (transportOf w (destinationOf w e))) t))
-      (λ f.
-      ap (λ b. b && getD room (destinationOf w e) false) f
-      ∙ sym (ap (λ b. (b && hasRoom w (destinationOf w e)) && hasAgent w (transportOf w (destinationOf w e))) f))
+module _ (w : State) (shape : Shaped w) (h : Sound w) (room : List Bool) (rooms : (d : ℕ) → d < w .setup .destinations → getD room d false ≡ isOpen (w .destinations) (w .busy) (w .setup) d)
+    (pairs : List ℕ) (paired : Paired (w .entries .kind) (w .entries .job) (w .entries .destination) pairs)
+  where
+    -- the table of rooms finds the eligible entries
+    eligible-read : (e : ℕ) → e < 512 → (isWaiting w e && getD room (destinationOf w e) false) ≡ eligible w e
+    unfolding eligible hasRoom hasAgent isOpen
+    eligible-read e l =
+        case-bool (isWaiting w e)
+        (λ t.
+        ap (λ b. b && getD room (destinationOf w e) false) t
+        ∙ rooms (destinationOf w e) (h .entries e l (waiting-used w e t) .destination)
+        ∙ sym (ap (λ b. (b && hasRoom w (destinationOf w e)) && hasAgent w (transportOf w (destinationOf w e))) t))
+        (λ f.
+        ap (λ b. b && getD room (destinationOf w e) false) f
+        ∙ sym (ap (λ b. (b && hasRoom w (destinationOf w e)) && hasAgent w (transportOf w (destinationOf w e))) f))
 
-  pub ready-read : (j e : ℕ) → e < 512 → readyIn (w .entries .kind) (w .entries .job) (w .entries .destination) room j e ≡ eligibleOf w j e
-  unfolding readyIn eligibleOf
-  ready-read j e l = ap (λ b. b && eqb (jobOf w e) j) (eligible-read e l)
+    to-below : (e : ℕ) → e < 512 → isWaiting w e ≡ true → destinationOf w e < 32
+    to-below e l t = omega (arith, h .entries e l (waiting-used w e t) .destination, h .setup .destinations)
 
-  pub ready-to-read : (j d e : ℕ) → e < 512 → readyTo (w .entries .kind) (w .entries .job) (w .entries .destination) room j d e ≡ eligibleTo w j d e
-  unfolding readyTo eligibleTo
-  ready-to-read j d e l = ap (λ b. b && eqb (destinationOf w e) d) (ready-read j e l)
+    -- the pair of a waiting entry says its job and its destination
+    of-pair : (j d e : ℕ) → d < 32 → e < 512 → (isWaiting w e && eqb (32 * jobOf w e + destinationOf w e) (32 * j + d)) ≡ waitsFor (w .entries .kind) (w .entries .job) (w .entries .destination) j d e
+    unfolding waitsFor
+    of-pair j d e b l =
+        bool-same
+        (λ t.
+        let wait = and-left (isWaiting w e) (eqb (32 * jobOf w e + destinationOf w e) (32 * j + d)) t in
+        let same = eqb-true (32 * jobOf w e + destinationOf w e) (32 * j + d) (and-right (isWaiting w e) (eqb (32 * jobOf w e + destinationOf w e) (32 * j + d)) t) in
+        and-both (and-both wait (eq-eqb (jobOf w e) j (omega (arith, same, to-below e l wait)))) (eq-eqb (destinationOf w e) d (omega (arith, same, to-below e l wait))))
+        (λ t.
+        let own = and-left (isWaiting w e && eqb (jobOf w e) j) (eqb (destinationOf w e) d) t in
+        and-both (and-left (isWaiting w e) (eqb (jobOf w e) j) own)
+        (eq-eqb (32 * jobOf w e + destinationOf w e) (32 * j + d)
+        (omega (arith, eqb-true (jobOf w e) j (and-right (isWaiting w e) (eqb (jobOf w e) j) own), eqb-true (destinationOf w e) d (and-right (isWaiting w e && eqb (jobOf w e) j) (eqb (destinationOf w e) d) t)))))
 
-  pub tally-reads : (waits : List ℕ) (ready : List Bool) → ((j : ℕ) → j < 256 → at waits j ≡ countTo (waitsIn (w .entries .kind) (w .entries .job) j) 512)
-      → ((j : ℕ) → j < 256 → getD ready j false ≡ anyTo (readyIn (w .entries .kind) (w .entries .job) (w .entries .destination) room j) 512) → Reads w waits ready
-  unfolding waitingOf waitsOf waitsIn hasEligible
-  tally-reads waits ready a b =
-      record {
-        waiting = a;
-        eligible = λ j l. b j l ∙ any-same (readyIn (w .entries .kind) (w .entries .job) (w .entries .destination) room j) (eligibleOf w j) 512 (λ e m. ready-read j e m);
-      }
+    some-waits : (j d : ℕ) → j < 32 → d < 32 → ltb 0 (at pairs (32 * j + d)) ≡ anyTo (waitsFor (w .entries .kind) (w .entries .job) (w .entries .destination) j d) 512
+    unfolding tallyTo
+    some-waits j d a b =
+        ap (ltb 0) (paired .counts (32 * j + d) (omega arith))
+        ∙ sym (count-any (λ e. isWaiting w e && eqb (32 * jobOf w e + destinationOf w e) (32 * j + d)) 512)
+        ∙ any-same (λ e. isWaiting w e && eqb (32 * jobOf w e + destinationOf w e) (32 * j + d)) (waitsFor (w .entries .kind) (w .entries .job) (w .entries .destination) j d) 512 (λ e l. of-pair j d e b l)
 
-  -- the first entries of a job
+    -- where destination d has room, what waits for it is eligible
+    waits-eligible : (j d e : ℕ) → e < 512 → getD room d false ≡ true → waitsFor (w .entries .kind) (w .entries .job) (w .entries .destination) j d e ≡ eligibleTo w j d e
+    unfolding waitsFor eligibleTo eligibleOf
+    waits-eligible j d e l o =
+        case-bool (eqb (destinationOf w e) d)
+        (λ t.
+        ap (λ b. (b && eqb (jobOf w e) j) && eqb (destinationOf w e) d)
+        (sym (and-true (isWaiting w e)) ∙ ap (λ b. isWaiting w e && b) (sym (ap (λ x. getD room x false) (eqb-true (destinationOf w e) d t) ∙ o)) ∙ eligible-read e l))
+        (λ f. and-right-false (isWaiting w e && eqb (jobOf w e) j) f ∙ sym (and-right-false (eligible w e && eqb (jobOf w e) j) f))
 
-  module _ (j : ℕ) (first : List ℕ) (found : (d : ℕ) → d < 256 → at first d ≡ firstTo (readyTo (w .entries .kind) (w .entries .job) (w .entries .destination) room j d) 512) where
-    pub first-read : (d : ℕ) → d < 256 → at first d ≡ firstTo (eligibleTo w j d) 512
-    first-read d l = found d l ∙ first-same (readyTo (w .entries .kind) (w .entries .job) (w .entries .destination) room j d) (eligibleTo w j d) 512 (λ e m. ready-to-read j d e m)
+    eligible-open : (j d e : ℕ) → e < 512 → eligibleTo w j d e ≡ true → (destinationOf w e ≡ d) × (isWaiting w e ≡ true) × (getD room d false ≡ true)
+    unfolding eligibleTo eligibleOf
+    eligible-open j d e l t =
+        let to = eqb-true (destinationOf w e) d (and-right (eligible w e && eqb (jobOf w e) j) (eqb (destinationOf w e) d) t) in
+        let ok = eligible-read e l ∙ and-left (eligible w e) (eqb (jobOf w e) j) (and-left (eligible w e && eqb (jobOf w e) j) (eqb (destinationOf w e) d) t) in
+        (to, and-left (isWaiting w e) (getD room (destinationOf w e) false) ok, subst (λ x. getD room x false ≡ true) to (and-right (isWaiting w e) (getD room (destinationOf w e) false) ok))
 
-    pub has-first-read : (k : ℕ) → orderAt w j k < 256 → hasFirst (w .jobs .order) first j k ≡ anyTo (eligibleTo w j (orderAt w j k)) 512
-    unfolding hasFirst
-    has-first-read k l = ap (λ x. ltb x 512) (first-read (orderAt w j k) l) ∙ first-any (eligibleTo w j (orderAt w j k)) 512
+    pub pair-read : (j d : ℕ) → j < 32 → d < 32 → openPair pairs room j d ≡ anyTo (eligibleTo w j d) 512
+    unfolding openPair
+    pair-read j d a b =
+        case-bool (getD room d false)
+        (λ o.
+        ap (λ x. ltb 0 (at pairs (32 * j + d)) && x) o
+        ∙ and-true (ltb 0 (at pairs (32 * j + d)))
+        ∙ some-waits j d a b
+        ∙ any-same (waitsFor (w .entries .kind) (w .entries .job) (w .entries .destination) j d) (eligibleTo w j d) 512 (λ e l. waits-eligible j d e l o))
+        (λ f.
+        and-right-false (ltb 0 (at pairs (32 * j + d))) f
+        ∙ sym (any-none (eligibleTo w j d) 512 (λ e l. false-of (λ t. true-not-false (eligible-open j d e l t .2) f))))
+
+    -- a job is ready where it has an eligible entry
+    ready-read : (j : ℕ) → j < 32 → anyTo (openPair pairs room j) 32 ≡ hasEligible w j
+    unfolding hasEligible eligibleTo
+    ready-read j a =
+        bool-same
+        (λ t.
+        let d = any-witness (openPair pairs room j) 32 t in
+        let e = any-witness (eligibleTo w j (d .0)) 512 (sym (pair-read j (d .0) a (d .1)) ∙ d .2) in
+        any-of (eligibleOf w j) 512 (e .0) (e .1) (and-left (eligibleOf w j (e .0)) (eqb (destinationOf w (e .0)) (d .0)) (e .2)))
+        (λ t.
+        let e = any-witness (eligibleOf w j) 512 t in
+        let own : eligibleTo w j (destinationOf w (e .0)) (e .0) ≡ true = and-both (e .2) (eqb-self (destinationOf w (e .0))) in
+        let b = to-below (e .0) (e .1) (eligible-open j (destinationOf w (e .0)) (e .0) (e .1) own .1) in
+        any-of (openPair pairs room j) 32 (destinationOf w (e .0)) b (pair-read j (destinationOf w (e .0)) a b ∙ any-of (eligibleTo w j (destinationOf w (e .0))) 512 (e .0) (e .1) own))
+
+    -- a number that is no job's has none
+    none-eligible : (j : ℕ) → 32 ≤ j → hasEligible w j ≡ false
+    unfolding hasEligible
+    none-eligible j a =
+        any-none (eligibleOf w j) 512
+        (λ e l. false-of (λ t.
+        (let s = eligible-sound w h e l (eligible-of-eligible w j e t) in
+        omega (arith, a, present-below w shape j (subst (λ x. isPresent w x ≡ true) (eligible-of-job w j e t) (s .present))))))
+
+    pub tally-reads : (waits : List ℕ) (ready : List Bool) → ((j : ℕ) → j < 256 → at waits j ≡ countTo (waitsIn (w .entries .kind) (w .entries .job) j) 512)
+        → ((j : ℕ) → j < 32 → getD ready j false ≡ anyTo (openPair pairs room j) 32) → ((j : ℕ) → 32 ≤ j → j < 256 → getD ready j false ≡ false) → Reads w waits ready
+    unfolding waitingOf waitsOf waitsIn
+    tally-reads waits ready a b c =
+        record {
+          waiting = a;
+          eligible = λ j l. elim (decLt j 32) [
+            | yes p ↦ b j p ∙ ready-read j p
+            | no p ↦ c j (omega arith) l ∙ sym (none-eligible j (omega arith))
+          ];
+        }
+
+    -- the places of a job's order
+
+    pub place-open : (j k : ℕ) → j < 32 → openPlace (w .jobs .order) pairs room j k ≡ anyTo (eligibleTo w j (orderAt w j k)) 512
+    unfolding openPlace openTo
+    place-open j k a =
+        elim (decLt (orderAt w j k) 32) [
+          | yes p ↦ ap (λ b. b && openPair pairs room j (orderAt w j k)) (lt-ltb (orderAt w j k) 32 p) ∙ pair-read j (orderAt w j k) a p
+          | no p ↦
+              and-left-false (openPair pairs room j (orderAt w j k)) (le-ltb (orderAt w j k) 32 (omega arith))
+              ∙ sym
+              (any-none (eligibleTo w j (orderAt w j k)) 512
+              (λ e l. false-of (λ t. (let f = eligible-open j (orderAt w j k) e l t in omega (arith, f .0, to-below e l (f .1))))))
+        ]
+
+    pub first-read : (j d : ℕ) → anyTo (eligibleTo w j d) 512 ≡ true → firstTo (waitsFor (w .entries .kind) (w .entries .job) (w .entries .destination) j d) 512 ≡ firstTo (eligibleTo w j d) 512
+    first-read j d some =
+        let e = any-witness (eligibleTo w j d) 512 some in
+        let o = eligible-open j d (e .0) (e .1) (e .2) .2 in
+        first-same (waitsFor (w .entries .kind) (w .entries .job) (w .entries .destination) j d) (eligibleTo w j d) 512 (λ e l. waits-eligible j d e l o)
 
 pub record TurnRead (w : State) (t y passed : ℕ) : Type 0 where
   pub finds : finds w ≡ true
@@ -173,47 +261,55 @@ module _ (w : State) (shape : Shaped w) (h : Sound w) (waits : List ℕ) (ready 
   pub not-found : (found : Bool) (t y passed : ℕ) → Turned (w .queues) (w .setup .transports) (w .turn) waits ready found t y passed → found ≡ false → finds w ≡ false
   not-found found t y passed r e = sym (r .finds ∙ finds-read) ∙ e
 
+-- the next place of a job, and its entry
+
+module _ (w : State) (shape : Shaped w) (h : Sound w) (j : ℕ) (below : j < 32) (present : isPresent w j ≡ true) (some : hasEligible w j ≡ true) where
+  -- the next place has an eligible entry
+  pub next-open : anyTo (eligibleTo w j (orderAt w j (nextPlace w j))) 512 ≡ true
+  unfolding eligibleTo eligibleOf
+  next-open =
+      let n = next-found w j shape h present some in
+      any-of (eligibleTo w j (orderAt w j (nextPlace w j))) 512 (nextEntry w j) (n .below)
+      (and-both (and-both (n .eligible) (eq-eqb (jobOf w (nextEntry w j)) j (n .job))) (eq-eqb (destinationOf w (nextEntry w j)) (orderAt w j (nextPlace w j)) (n .destination)))
+
+  -- its first entry
+  pub entry-read : (destination entry : ℕ) → destination ≡ orderAt w j (nextPlace w j) → entry ≡ firstTo (eligibleTo w j destination) 512 → entry ≡ nextEntry w j
+  unfolding nextEntry
+  entry-read destination entry d e = e ∙ ap (λ x. firstTo (eligibleTo w j x) 512) d
+
 -- the turn of a job's places
 
 module _ (w : State) (shape : Shaped w) (h : Sound w) (j : ℕ) (below : j < 32) (present : isPresent w j ≡ true) (some : hasEligible w j ≡ true)
-    (first : List ℕ) (order : (k : ℕ) → orderAt w j k < 256)
-    (tabled : (d : ℕ) → d < 256 → at first d ≡ firstTo (eligibleTo w j d) 512)
-    (asked : (k : ℕ) → orderAt w j k < 256 → hasFirst (w .jobs .order) first j k ≡ anyTo (eligibleTo w j (orderAt w j k)) 512)
+    (pairs : List ℕ) (room : List Bool)
+    (asked : (k : ℕ) → openPlace (w .jobs .order) pairs room j k ≡ anyTo (eligibleTo w j (orderAt w j k)) 512)
   where
-    same-steps : stepsTo (hasFirst (w .jobs .order) first j) (at (w .jobs .places) j) (at (w .jobs .turn) j)
+    same-steps : stepsTo (openPlace (w .jobs .order) pairs room j) (at (w .jobs .places) j) (at (w .jobs .turn) j)
         ≡ stepsTo (λ k. anyTo (eligibleTo w j (orderAt w j k)) 512) (at (w .jobs .places) j) (at (w .jobs .turn) j)
     same-steps =
-        steps-same (hasFirst (w .jobs .order) first j) (λ k. anyTo (eligibleTo w j (orderAt w j k)) 512) (at (w .jobs .places) j) (at (w .jobs .turn) j)
-        (λ k l. asked k (order k))
+        steps-same (openPlace (w .jobs .order) pairs room j) (λ k. anyTo (eligibleTo w j (orderAt w j k)) 512) (at (w .jobs .places) j) (at (w .jobs .turn) j)
+        (λ k l. asked k)
 
-    pub place-found : stepsTo (hasFirst (w .jobs .order) first j) (at (w .jobs .places) j) (at (w .jobs .turn) j) < at (w .jobs .places) j
-    unfolding eligibleTo eligibleOf
+    place-found : stepsTo (openPlace (w .jobs .order) pairs room j) (at (w .jobs .places) j) (at (w .jobs .turn) j) < at (w .jobs .places) j
     place-found =
-        let n = next-found w j shape h present some in
         rw same-steps
-        (steps-found (λ k. anyTo (eligibleTo w j (orderAt w j k)) 512) (at (w .jobs .places) j) (at (w .jobs .turn) j) (h .jobs j below present .turn) (nextPlace w j) (n .place)
-        (any-of (eligibleTo w j (orderAt w j (nextPlace w j))) 512 (nextEntry w j) (n .below)
-        (and-both (and-both (n .eligible) (eq-eqb (jobOf w (nextEntry w j)) j (n .job))) (eq-eqb (destinationOf w (nextEntry w j)) (orderAt w j (nextPlace w j)) (n .destination)))))
+        (steps-found (λ k. anyTo (eligibleTo w j (orderAt w j k)) 512) (at (w .jobs .places) j) (at (w .jobs .turn) j) (h .jobs j below present .turn) (nextPlace w j)
+        (next-found w j shape h present some .place) (next-open w shape h j below present some))
 
-    pub place-read : (at (w .jobs .turn) j + stepsTo (hasFirst (w .jobs .order) first j) (at (w .jobs .places) j) (at (w .jobs .turn) j)) % at (w .jobs .places) j ≡ nextPlace w j
+    place-read : (at (w .jobs .turn) j + stepsTo (openPlace (w .jobs .order) pairs room j) (at (w .jobs .places) j) (at (w .jobs .turn) j)) % at (w .jobs .places) j ≡ nextPlace w j
     unfolding nextPlace
     place-read = ap (λ x. (at (w .jobs .turn) j + x) % at (w .jobs .places) j) same-steps
 
-    pub entry-read : at first (orderAt w j (nextPlace w j)) ≡ nextEntry w j
-    unfolding nextEntry
-    entry-read = tabled (orderAt w j (nextPlace w j)) (order (nextPlace w j))
-
     -- what is promised with the columns read at i
-    pub placed-read : (i place entry : ℕ) → i ≡ j
-        → (stepsTo (hasFirst (w .jobs .order) first j) (at (w .jobs .places) i) (at (w .jobs .turn) i) < at (w .jobs .places) i
-        → Placed (w .jobs .order) first j (at (w .jobs .places) i) (at (w .jobs .turn) i) place entry)
-        → (place ≡ nextPlace w j) × (entry ≡ nextEntry w j)
-    placed-read i place entry e p =
+    pub placed-read : (i place destination : ℕ) → i ≡ j
+        → (stepsTo (openPlace (w .jobs .order) pairs room j) (at (w .jobs .places) i) (at (w .jobs .turn) i) < at (w .jobs .places) i
+        → Placed (w .jobs .order) pairs room j (at (w .jobs .places) i) (at (w .jobs .turn) i) place destination)
+        → (place ≡ nextPlace w j) × (destination ≡ orderAt w j (nextPlace w j))
+    placed-read i place destination e p =
         let q =
         subst
-        (λ x. stepsTo (hasFirst (w .jobs .order) first j) (at (w .jobs .places) x) (at (w .jobs .turn) x) < at (w .jobs .places) x
-        → Placed (w .jobs .order) first j (at (w .jobs .places) x) (at (w .jobs .turn) x) place entry)
+        (λ x. stepsTo (openPlace (w .jobs .order) pairs room j) (at (w .jobs .places) x) (at (w .jobs .turn) x) < at (w .jobs .places) x
+        → Placed (w .jobs .order) pairs room j (at (w .jobs .places) x) (at (w .jobs .turn) x) place destination)
         e p place-found
         in
         let here : place ≡ nextPlace w j = q .turn ∙ place-read in
-        (here, q .taken ∙ ap (λ x. at first (orderAt w j x)) here ∙ entry-read)
+        (here, q .taken ∙ ap (orderAt w j) here)

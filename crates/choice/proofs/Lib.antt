@@ -1,10 +1,9 @@
 pub mod Steps
 pub mod Rooms
-pub mod Passes
+pub mod Lefts
 pub mod Credits
 pub mod Bests
 pub mod Fronts
-pub mod Firsts
 pub mod Preempts
 pub mod Shapes
 pub mod Glue

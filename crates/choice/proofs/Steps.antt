@@ -1,13 +1,11 @@
--- One step of a loop that fills a table, or asks into one.
-use Prim.Native.Nat.{ℕ, _+_, _<_}
-use mathlib.Core.Bool.{Bool, true, false, _||_, or-false}
-use mathlib.Core.Path.{_≡_, sym, _∙_, ap, ap₂}
-use mathlib.Core.Logic.{_≢_}
+-- One step of a loop that fills a table.
+use Prim.Native.Nat.{ℕ, _+_, _≤_, _<_}
+use mathlib.Core.Path.{_≡_, refl, _∙_}
 use mathlib.Core.List.{List}
+use native.Mathlib.Nat.{not-suc-le-zero}
 use native.Mathlib.Omega.{arith}
-use lib.ListN.{length, getD, set}
-use Rattle.laws.specs.Range.{anyTo}
-use Rattle.laws.proofs.All.{any-step}
+use lib.ListN.{length, getD, set, replicate, length-set, getD-replicate}
+use lib.Seq.{getD-set-other}
 use Rattle.laws.proofs.Columns.{set-all}
 
 -- a table filled up to i, one place further
@@ -15,18 +13,21 @@ pub table-more {ℓ} : {A : Type ℓ} (f : ℕ → A) (l : List A) (i : ℕ) (v 
 table-more f l i v d h old new =
     set-all (λ k x. k < i + 1 → x ≡ f k) l i v d h (λ m. new) (λ k ne m. old k (omega arith))
 
--- of each j, a test; i passes that of j alone
-module _ (p : ℕ → ℕ → Bool) (i n : ℕ) where
-  -- whether some number below i passes the test of each j
-  pub any-miss : (k : ℕ) → p k i ≡ false → anyTo (p k) i ≡ anyTo (p k) (i + 1)
-  any-miss k f = sym (any-step (p k) i ∙ ap (λ x. anyTo (p k) i || x) f ∙ or-false (anyTo (p k) i))
+-- a table of 256 places, filled for the first j of 32 jobs, and d from there on
+pub record Filled {A : Type 0} (f : ℕ → A) (d : A) (l : List A) (j : ℕ) : Type 0 where
+  pub size : length l ≡ 256
+  pub bound : j ≤ 32
+  pub below : (k : ℕ) → k < j → getD l k d ≡ f k
+  pub above : (k : ℕ) → j ≤ k → k < 256 → getD l k d ≡ d
 
-  pub any-hits : (l : List Bool) (j : ℕ) (v : Bool) → j < length l → ((k : ℕ) → k < n → getD l k false ≡ anyTo (p k) i) → j < n → p j i ≡ v → ((k : ℕ) → k ≢ j → p k i ≡ false)
-      → (k : ℕ) → k < n → getD (set l j (getD l j false || v)) k false ≡ anyTo (p k) (i + 1)
-  any-hits l j v h old below hit miss =
-      set-all (λ k x. k < n → x ≡ anyTo (p k) (i + 1)) l j (getD l j false || v) false h
-      (λ m. ap₂ _||_ (old j below) (sym hit) ∙ sym (any-step (p j) i))
-      (λ k ne m. old k m ∙ any-miss k (miss k ne))
+pub filled-none : {A : Type 0} (f : ℕ → A) (d : A) → Filled f d (replicate 256 d) 0
+filled-none f d = record { size = refl; bound = omega arith; below = λ k l. absurd (not-suc-le-zero l); above = λ k l m. getD-replicate 256 k d d m }
 
-  pub any-misses : (l : List Bool) → ((k : ℕ) → k < n → getD l k false ≡ anyTo (p k) i) → ((k : ℕ) → p k i ≡ false) → (k : ℕ) → k < n → getD l k false ≡ anyTo (p k) (i + 1)
-  any-misses l old miss k m = old k m ∙ any-miss k (miss k)
+pub filled-more : {A : Type 0} {f : ℕ → A} {d : A} {l : List A} {j : ℕ} {v : A} → Filled f d l j → j < 32 → v ≡ f j → Filled f d (set l j v) (j + 1)
+filled-more {f = f} {d = d} {l = l} {j = j} {v = v} h b e =
+    record {
+      size = length-set l j v ∙ h .size;
+      bound = omega arith;
+      below = table-more f l j v d (omega (arith, h .size)) (h .below) e;
+      above = λ k m n. getD-set-other l j k v d (omega arith) ∙ h .above k (omega arith) n;
+    }

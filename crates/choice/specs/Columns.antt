@@ -1,5 +1,5 @@
 -- What the leaf functions read, over columns. proofs/ ties each to the rule of `rules` whose columns these are.
-use Prim.Native.Nat.{ℕ, _+_, _-_, _≤_, _<_}
+use Prim.Native.Nat.{ℕ, _+_, _-_, _*_, _≤_, _<_}
 use mathlib.Core.Path.{_≡_}
 use mathlib.Core.Bool.{Bool, true, false, _&&_}
 use mathlib.Core.List.{List}
@@ -24,8 +24,8 @@ unfoldable pub waitsIn : List ℕ → List ℕ → ℕ → ℕ → Bool
 waitsIn kind job j e = eqb (at kind e) 1 && eqb (at job e) j
 
 -- what waits of job j, by its own counts; 0 where it is absent
-unfoldable pub leftIn : Jobs → ℕ → ℕ
-leftIn g j = if getD (g .present) j false then at (g .n) j - (at (g .picked) j + at (g .dropped) j) else 0
+unfoldable pub leftIn : List Bool → List ℕ → List ℕ → List ℕ → ℕ → ℕ
+leftIn present n picked dropped j = if getD present j false then at n j - (at picked j + at dropped j) else 0
 
 -- .. which soundness ties to the entries
 pub record Adds (g : Jobs) (kind job : List ℕ) : Type 0 where
@@ -33,10 +33,14 @@ pub record Adds (g : Jobs) (kind job : List ℕ) : Type 0 where
   pub absent : (j : ℕ) → j < 32 → getD (g .present) j false ≡ false → countTo (waitsIn kind job j) 512 ≡ 0
   pub others : (j : ℕ) → 32 ≤ j → countTo (waitsIn kind job j) 512 ≡ 0
 
--- entry e waits, its destination has room, and it is of job j
-unfoldable pub readyIn : List ℕ → List ℕ → List ℕ → List Bool → ℕ → ℕ → Bool
-readyIn kind job destination room j e = (eqb (at kind e) 1 && getD room (at destination e) false) && eqb (at job e) j
+-- job j has an entry that waits for destination d, which has room
+unfoldable pub openPair : List ℕ → List Bool → ℕ → ℕ → Bool
+openPair pairs room j d = ltb 0 (at pairs (32 * j + d)) && getD room d false
 
--- and it goes to destination d
-unfoldable pub readyTo : List ℕ → List ℕ → List ℕ → List Bool → ℕ → ℕ → ℕ → Bool
-readyTo kind job destination room j d e = readyIn kind job destination room j e && eqb (at destination e) d
+-- the same of a number that may be no destination
+unfoldable pub openTo : List ℕ → List Bool → ℕ → ℕ → Bool
+openTo pairs room j d = ltb d 32 && openPair pairs room j d
+
+-- entry e of job j waits for destination d
+unfoldable pub waitsFor : List ℕ → List ℕ → List ℕ → ℕ → ℕ → ℕ → Bool
+waitsFor kind job destination j d e = (eqb (at kind e) 1 && eqb (at job e) j) && eqb (at destination e) d

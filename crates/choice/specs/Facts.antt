@@ -10,6 +10,7 @@ use Rattle.rules.specs.declared.JobList.{JobList}
 use Rattle.rules.specs.declared.State.{State}
 use Rattle.rules.specs.State.{at, zeroList, listOf, waitingOf}
 use Rattle.rules.specs.Picking.{hasEligible, stepsTo}
+use Rattle.choice.specs.Columns.{openTo}
 
 -- the tables hold, of each job, how many of its entries wait and whether one is eligible
 pub record Reads (s : State) (waits : List ℕ) (ready : List Bool) : Type 0 where
@@ -43,14 +44,14 @@ pub record Turned (queues : List JobList) (n start : ℕ) (waits : List ℕ) (re
   pub current : found ≡ true → job ≡ frontOf ready (listOf (getD queues transport zeroList))
   pub ahead : found ≡ true → passed ≡ aheadOf waits (listOf (getD queues transport zeroList)) job
 
--- a place of a job's order has a first entry
-unfoldable pub hasFirst : List ℕ → List ℕ → ℕ → ℕ → Bool
-hasFirst order first j k = ltb (at first (at order (32 * j + k))) 512
+-- an entry of job j waits for the destination at a place of its order, which has room
+unfoldable pub openPlace : List ℕ → List ℕ → List Bool → ℕ → ℕ → Bool
+openPlace order pairs room j k = openTo pairs room j (at order (32 * j + k))
 
--- a turn of the places of an order, where some place has a first entry
-pub record Placed (order first : List ℕ) (j n start place entry : ℕ) : Type 0 where
-  pub turn : place ≡ (start + stepsTo (hasFirst order first j) n start) % n
-  pub taken : entry ≡ getD first (getD order (32 * j + place) 0) 0
+-- a turn of the places of an order, where there is such a place
+pub record Placed (order pairs : List ℕ) (room : List Bool) (j n start place destination : ℕ) : Type 0 where
+  pub turn : place ≡ (start + stepsTo (openPlace order pairs room j) n start) % n
+  pub taken : destination ≡ at order (32 * j + place)
 
 -- each job of a list is one of the 32, and came at or before now
 abbrev pub Arrived : List ℕ → List ℕ → ℕ → ℕ → Type 0

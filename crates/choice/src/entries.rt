@@ -1,8 +1,7 @@
-// The entries, in one pass each. Tables that a byte indexes have 256 places, so that no number has to be tested first.
+// What waits, and where there is room. Tables that a byte indexes have 256 places, so that no number has to be tested first.
 use rules::Busy;
 use rules::Destination;
 use rules::Health;
-use rules::Jobs;
 use rules::Setup;
 ghost use mathlib.Core.Path.{_≡_};
 ghost use mathlib.Core.Bool.{Bool, true, false, _&&_};
@@ -10,10 +9,10 @@ ghost use Prim.Native.Nat.{ℕ, _+_, _-_, _<_, _≤_};
 ghost use lib.ListN.{length, getD};
 ghost use lib.Dec.{eqb, ltb};
 ghost use Rattle.laws.specs.Choice.{if_then_else_};
-ghost use Rattle.laws.specs.Range.{anyTo, countTo, firstTo};
+ghost use Rattle.laws.specs.Range.{anyTo, firstTo};
 ghost use Rattle.rules.specs.State.{at, isLive, windowOf};
 ghost use Rattle.rules.specs.SoundFacts.{InRange};
-ghost use Rattle.choice.specs.Columns.{isOpen, waitsIn, readyIn, readyTo, leftIn, Adds};
+ghost use Rattle.choice.specs.Columns.{isOpen, leftIn, openPair, openTo, waitsFor};
 
 // A byte as an index.
 pub fn wide(x: u8) -> usize
@@ -74,74 +73,89 @@ fn left_of(present: bool, n: u16, picked: u16, dropped: u16) -> u16
 }
 
 // The same of each job number.
-fn left_waiting(jobs: Jobs) -> [u16; 256]
-    requires { ⌜ ((j : ℕ) → j < 32 → getD (jobs .present) j false ≡ true → at (jobs .picked) j + at (jobs .dropped) j ≤ at (jobs .n) j) ⌝ }
-    ensures jobs { λ r. ⌜ ((j : ℕ) → j < 32 → at r j ≡ leftIn jobs j) ⌝ }
+pub fn left_waiting<'a>(
+    present: &'a [bool; 32],
+    n: &'a [u16; 32],
+    picked: &'a [u16; 32],
+    dropped: &'a [u16; 32],
+) -> [u16; 256]
+    requires { ⌜ ((j : ℕ) → j < 32 → getD (now present) j false ≡ true → at (now picked) j + at (now dropped) j ≤ at (now n) j) ⌝ }
+    ensures jobs { λ r. ⌜ ((j : ℕ) → j < 32 → at r j ≡ leftIn (now (present .entry)) (now (n .entry)) (now (picked .entry)) (now (dropped .entry)) j) ⌝ }
     ensures others { λ r. ⌜ ((j : ℕ) → 32 ≤ j → j < 256 → at r j ≡ 0) ⌝ }
 {
     let mut waits = [0u16; 256];
     let mut j: usize = 0;
     while j < 32 {
-        waits[j] = left_of(jobs.present[j], jobs.n[j], jobs.picked[j], jobs.dropped[j]);
+        waits[j] = left_of(present[j], n[j], picked[j], dropped[j]);
         j += 1;
     }
     waits
 }
 
-// Of each job, how many entries wait, and whether one of them has a destination with room.
-pub struct Tally {
-    pub waits: [u16; 256],
-    pub ready: [bool; 256],
+// Job j has an entry that waits for destination d, which has room.
+fn open_pair(pairs: &[u16; 1024], room: &[bool; 256], j: usize, d: usize) -> bool
+    requires { ⌜ (j < 32) × (d < 32) ⌝ }
+    ensures { λ r. ⌜ r ≡ openPair (now (pairs .entry)) (now (room .entry)) j d ⌝ }
+{
+    (0 < pairs[32 * j + d]) & room[d]
 }
 
-// Soundness gives that what waits can be told from the job's own counts, so that the pass over the entries has one thing to find.
-pub fn count_waiting<'a>(
-    jobs: Jobs,
-    kind: &'a [u8; 512],
-    job: &'a [u8; 512],
-    destination: &'a [u8; 512],
-    room: &[bool; 256],
-) -> Tally
-    requires { ⌜ Adds jobs (now kind) (now job) ⌝ }
-    ensures waits { λ r. ⌜ ((j : ℕ) → j < 256 → at (r .waits) j ≡ countTo (waitsIn (now (kind .entry)) (now (job .entry)) j) 512) ⌝ }
-    ensures ready { λ r. ⌜ ((j : ℕ) → j < 256 → getD (r .ready) j false ≡ anyTo (readyIn (now (kind .entry)) (now (job .entry)) (now (destination .entry)) (now (room .entry)) j) 512) ⌝ }
+// The same of any byte. From 32 on there is no destination.
+pub fn open_to(pairs: &[u16; 1024], room: &[bool; 256], j: usize, to: u8) -> bool
+    requires { ⌜ j < 32 ⌝ }
+    ensures { λ r. ⌜ r ≡ openTo (now (pairs .entry)) (now (room .entry)) j to ⌝ }
 {
-    let waits = left_waiting(jobs);
+    let d = wide(to);
+    if 32 <= d {
+        return false;
+    }
+    open_pair(pairs, room, j, d)
+}
+
+// Some destination has one.
+fn any_open(pairs: &[u16; 1024], room: &[bool; 256], j: usize) -> bool
+    requires { ⌜ j < 32 ⌝ }
+    ensures { λ r. ⌜ r ≡ anyTo (openPair (now (pairs .entry)) (now (room .entry)) j) 32 ⌝ }
+{
+    let mut any = false;
+    let mut d: usize = 0;
+    while d < 32 {
+        any = any | open_pair(pairs, room, j, d);
+        d += 1;
+    }
+    any
+}
+
+// The jobs of which this holds.
+pub fn ready_jobs(pairs: &[u16; 1024], room: &[bool; 256]) -> [bool; 256]
+    ensures jobs { λ r. ⌜ ((j : ℕ) → j < 32 → getD r j false ≡ anyTo (openPair (now (pairs .entry)) (now (room .entry)) j) 32) ⌝ }
+    ensures others { λ r. ⌜ ((j : ℕ) → 32 ≤ j → j < 256 → getD r j false ≡ false) ⌝ }
+{
     let mut ready = [false; 256];
-    let mut e: usize = 0;
-    while e < 512 {
-        if kind[e] == 1 {
-            let j = wide(job[e]);
-            if !ready[j] {
-                let d = wide(destination[e]);
-                ready[j] = room[d];
-            }
-        }
-        e += 1;
+    let mut j: usize = 0;
+    while j < 32 {
+        ready[j] = any_open(pairs, room, j);
+        j += 1;
     }
-    Tally { waits, ready }
+    ready
 }
 
-// Of one job, the first entry to each destination that waits there with room; 512 where there is none.
-pub fn first_ready<'a>(
+// The first entry of job j that waits for destination d; 512 where there is none.
+pub fn first_waiting<'a>(
     kind: &'a [u8; 512],
     job: &'a [u8; 512],
     destination: &'a [u8; 512],
-    room: &[bool; 256],
     j: u8,
-) -> [u16; 256]
-    ensures { λ r. ⌜ ((d : ℕ) → d < 256 → at r d ≡ firstTo (readyTo (now (kind .entry)) (now (job .entry)) (now (destination .entry)) (now (room .entry)) j d) 512) ⌝ }
+    d: u8,
+) -> u16
+    ensures { λ r. ⌜ r ≡ firstTo (waitsFor (now (kind .entry)) (now (job .entry)) (now (destination .entry)) j d) 512 ⌝ }
 {
-    let mut first = [512u16; 256];
     let mut e: usize = 0;
     while e < 512 {
-        if job[e] == j {
-            let d = wide(destination[e]);
-            if (kind[e] == 1) & room[d] & (first[d] == 512) {
-                first[d] = e as u16;
-            }
+        if (kind[e] == 1) & (job[e] == j) & (destination[e] == d) {
+            return e as u16;
         }
         e += 1;
     }
-    first
+    512
 }

@@ -3,9 +3,10 @@ mod entries;
 mod preemption;
 mod turns;
 
-use entries::count_waiting;
-use entries::first_ready;
+use entries::first_waiting;
+use entries::left_waiting;
 use entries::open_table;
+use entries::ready_jobs;
 use entries::wide;
 use preemption::find_preemptor;
 use rules::State;
@@ -15,6 +16,7 @@ ghost use mathlib.Core.Path.{_≡_};
 ghost use Prim.Native.Nat.{_≤_};
 ghost use Rattle.rules.specs.Sizes.{lastSecond};
 ghost use Rattle.rules.specs.SoundFacts.{Sound};
+ghost use Rattle.soundness.specs.Columns.{Paired};
 ghost use Rattle.choice.specs.Choosing.{choiceOf, pickedFrom};
 
 // What a pick reads. All zeros where nothing is found.
@@ -44,27 +46,21 @@ fn picked_from(current: u8, link: u8) -> u8
     link - 1
 }
 
-// The public pick has checked before that the state is sound and the clock is in order.
-pub fn choose(w: State, now: u64) -> Choice
-    requires { ⌜ (Sound w) × (w .clock ≤ now) × (now ≤ lastSecond) ⌝ }
+// The public pick has checked before that the state is sound, which gave the table of pairs, and that the clock is in order.
+pub fn choose(w: State, now: u64, pairs: &[u16; 1024]) -> Choice
+    requires { ⌜ (Sound w) × (w .clock ≤ now) × (now ≤ lastSecond) × Paired (w .entries .kind) (w .entries .job) (w .entries .destination) (pairs .now) ⌝ }
     ensures { λ r. ⌜ r ≡ choiceOf w now ⌝ }
 {
     let setup = w.setup;
     let busy = w.busy;
     let destinations = w.destinations;
-    let entries = w.entries;
     let queues = w.queues;
     let jobs = w.jobs;
     let arrivals = w.arrivals;
     let room = open_table(destinations, busy, setup);
-    let tally = count_waiting(
-        jobs,
-        &entries.kind,
-        &entries.job,
-        &entries.destination,
-        &room,
-    );
-    let turn = next_transport(queues, setup.transports, w.turn, &tally.waits, &tally.ready);
+    let waits = left_waiting(&jobs.present, &jobs.n, &jobs.picked, &jobs.dropped);
+    let ready = ready_jobs(pairs, &room);
+    let turn = next_transport(queues, setup.transports, w.turn, &waits, &ready);
     if !turn.found {
         return Choice {
             found: false,
@@ -82,28 +78,16 @@ pub fn choose(w: State, now: u64) -> Choice
     let y = turn.job;
     let at = wide(t);
     let settings = setup.settings[at];
-    let p = find_preemptor(
-        jobs,
-        arrivals,
-        settings,
-        &tally.waits,
-        &tally.ready,
-        now,
-        t,
-        y,
-    );
+    let p = find_preemptor(jobs, arrivals, settings, &waits, &ready, now, t, y);
     let job = picked_from(y, p.link);
-    let first = first_ready(
-        &entries.kind,
-        &entries.job,
-        &entries.destination,
-        &room,
-        job,
-    );
     let from = wide(job);
     let places = jobs.places[from];
     let start = jobs.turn[from];
-    let next = next_place(&jobs.order, job, places, start, &first);
+    let next = next_place(&jobs.order, job, places, start, pairs, &room);
+    let kind = w.entries.kind;
+    let owner = w.entries.job;
+    let to = w.entries.destination;
+    let entry = first_waiting(&kind, &owner, &to, job, next.destination);
     Choice {
         found: true,
         transport: t,
@@ -113,6 +97,6 @@ pub fn choose(w: State, now: u64) -> Choice
         waiting: p.waiting,
         job,
         place: next.place,
-        entry: next.entry,
+        entry,
     }
 }

@@ -1,11 +1,12 @@
 // Turns: of the transports, and of the destinations of a job.
+use crate::entries::open_to;
 use crate::entries::wide;
 use rules::JobList;
 ghost use mathlib.Core.Path.{_≡_};
 ghost use Prim.Native.Nat.{ℕ, _+_, _%_, _<_, _≤_};
 ghost use lib.ListN.{length, take};
 ghost use Rattle.rules.specs.Picking.{stepsTo};
-ghost use Rattle.choice.specs.Facts.{frontOf, aheadOf, Lists, Turned, hasFirst, Placed};
+ghost use Rattle.choice.specs.Facts.{frontOf, aheadOf, Lists, Turned, openPlace, Placed};
 
 // The first job of a list that is ready, and how many before it have a waiting entry.
 pub struct Front {
@@ -83,31 +84,41 @@ pub fn next_transport<'a>(
     }
 }
 
-// The place in a job's order of destinations whose turn it is, and its first entry.
+// The place in a job's order of destinations whose turn it is, and its destination.
 pub struct Next {
     pub place: u8,
-    pub entry: u16,
+    pub destination: u8,
 }
 
-pub fn next_place(order: &[u8; 1024], j: u8, places: u8, start: u8, first: &[u16; 256]) -> Next
+pub fn next_place(
+    order: &[u8; 1024],
+    j: u8,
+    places: u8,
+    start: u8,
+    pairs: &[u16; 1024],
+    room: &[bool; 256],
+) -> Next
     requires { ⌜ (j < 32) × (places ≤ 32) × (start ≤ places) ⌝ }
-    ensures { λ r. ⌜ (stepsTo (hasFirst (now (order .entry)) (now (first .entry)) j) places start < places → Placed (now (order .entry)) (now (first .entry)) j places start (r .place) (r .entry)) ⌝ }
+    ensures { λ r. ⌜ (stepsTo (openPlace (now (order .entry)) (now (pairs .entry)) (now (room .entry)) j) places start < places
+        → Placed (now (order .entry)) (now (pairs .entry)) (now (room .entry)) j places start (r .place) (r .destination)) ⌝ }
 {
     let n = places as usize;
     let from = start as usize;
-    let base = 32 * (j as usize);
+    let job = j as usize;
     let mut step: usize = 0;
     while step < n {
         let k = (from + step) % n;
-        let d = wide(order[base + k]);
-        let e = first[d];
-        if e < 512 {
+        let to = order[32 * job + k];
+        if open_to(pairs, room, job, to) {
             return Next {
                 place: k as u8,
-                entry: e,
+                destination: to,
             };
         }
         step += 1;
     }
-    Next { place: 0, entry: 0 }
+    Next {
+        place: 0,
+        destination: 0,
+    }
 }

@@ -79,7 +79,8 @@ pub fn pick(s: State, now: u64) -> PickReply
     ensures { λ r. ⌜ pickGave r ≡ pickReply s now ⌝ }
 {
     let mut next = s;
-    if !soundness::sound(next) {
+    let mut pairs = [0u16; 1024];
+    if !soundness::sound_with(next, &mut pairs) {
         return PickReply {
             answer: PickAnswer::Refused(1),
             state: s,
@@ -102,7 +103,7 @@ pub fn pick(s: State, now: u64) -> PickReply
     let ds = window::wake(old, u, now);
     next.clock = now as u32;
     next.destinations = ds;
-    let c = choice::choose(next, now);
+    let c = choice::choose(next, now, &pairs);
     if !c.found {
         return PickReply {
             answer: PickAnswer::Nothing,

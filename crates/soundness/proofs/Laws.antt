@@ -36,10 +36,10 @@ pub all-more : (p : ℕ → Bool) (i : ℕ) → allTo p i ≡ true → p i ≡ t
 all-more p i h k = all-step p i ∙ and-both h k
 
 -- a table that is filled from the front
-pub fill-turn : (f : ℕ → Bool) (l : List Bool) (j : ℕ) (v : Bool) → j < length l → v ≡ f j → ((i : ℕ) → i < j → getD l i false ≡ f i) → (i : ℕ) → i < j + 1 → getD (set l j v) i false ≡ f i
-fill-turn f l j v b e h i k = elim (ℕ-discrete i j) [
-  | yes q ↦ rw q (getD-set-same l j v false b ∙ e)
-  | no ne ↦ getD-set-other l j i v false ne ∙ h i (omega arith)
+pub fill-turn : {A : Type 0} (z : A) (f : ℕ → A) (l : List A) (j : ℕ) (v : A) → j < length l → v ≡ f j → ((i : ℕ) → i < j → getD l i z ≡ f i) → (i : ℕ) → i < j + 1 → getD (set l j v) i z ≡ f i
+fill-turn z f l j v b e h i k = elim (ℕ-discrete i j) [
+  | yes q ↦ rw q (getD-set-same l j v z b ∙ e)
+  | no ne ↦ getD-set-other l j i v z ne ∙ h i (omega arith)
 ]
 
 -- chains

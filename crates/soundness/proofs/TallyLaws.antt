@@ -9,16 +9,17 @@ use native.Mathlib.Omega.{arith}
 use lib.Dec.{eqb, ltb}
 use lib.ListN.{length, getD, set, length-set, replicate, getD-replicate, List·getD-eq-default}
 use lib.Seq.{getD-set-same, getD-set-other}
-use borrow.Author.Tests.{eq-eqb, ne-eqb, lt-ltb, le-ltb}
-use Rattle.laws.specs.Range.{allTo, countTo}
-use Rattle.laws.proofs.Choice.{true-not-false, false-of, and-both, and-left-false, and-right-false, and-left, and-right, or-left, or-right, or-neither, one-true, one-false}
+use borrow.Author.Tests.{eqb-true, eq-eqb, ne-eqb, ltb-true, lt-ltb, le-ltb}
+use Rattle.laws.specs.Range.{allTo, countTo, sumTo}
+use Rattle.laws.proofs.Choice.{true-not-false, false-of, and-both, and-left-false, and-right-false, and-left, and-right, or-left, or-right, or-cases, or-neither, one-true, one-false}
 use Rattle.laws.proofs.Both.{and-4}
-use Rattle.laws.proofs.All.{all-false-of}
+use Rattle.laws.proofs.All.{all-at, all-false-of}
 use Rattle.laws.proofs.Count.{count-step, count-le-bound}
 use Rattle.rules.specs.State.{at}
 use Rattle.soundness.specs.declared.Tally.{Tally}
-use Rattle.soundness.specs.Columns.{Columns, belongsTest, entryTest, tallyTo, Counts, Tables, Tallied}
+use Rattle.soundness.specs.Columns.{Columns, belongsTest, entryTest, tallyTo, Counts, Tallied}
 use Rattle.soundness.proofs.Laws.{all-more}
+use Rattle.soundness.proofs.PairLaws.{row-is, row-fits}
 
 module _ (kind : List ℕ) (v : ℕ) (key : ℕ → ℕ) (m : ℕ) where
   pub counts-none : (table : List ℕ) → length table ≡ m → ((x : ℕ) → x < m → at table x ≡ 0) → Counts kind v key m 0 table
@@ -70,42 +71,41 @@ module _ (kind : List ℕ) (v : ℕ) (key : ℕ → ℕ) (m : ℕ) where
         }
 
 -- what holds before entry n
-pub record Counted (k : Columns) (n : ℕ) (w b h t o : List ℕ) : Type 0 where
-  pub tables : Tables k n w b h t o
+pub record Counted (k : Columns) (n : ℕ) (p b h t o : List ℕ) : Type 0 where
+  pub pairs : Counts (k .kind) 1 (λ e. 32 * at (k .job) e + at (k .destination) e) 1024 n p
+  pub busy : Counts (k .kind) 2 (at (k .job)) 32 n b
+  pub held : Counts (k .kind) 1 (at (k .destination)) 32 n h
+  pub to : Counts (k .kind) 2 (at (k .destination)) 32 n t
+  pub on : Counts (k .kind) 2 (λ e. at (k .home) (at (k .destination) e)) 4 n o
   pub right : allTo (entryTest k) n ≡ true
 
 zeros : (m x : ℕ) → x < m → at (replicate m 0) x ≡ 0
 zeros m x l = getD-replicate m x 0 0 l
 
 module _ (k : Columns) where
-  pub counted-none : Counted k 0 (replicate 32 0) (replicate 32 0) (replicate 32 0) (replicate 32 0) (replicate 4 0)
+  pub counted-none : (p : List ℕ) → length p ≡ 1024 → ((x : ℕ) → x < 1024 → at p x ≡ 0)
+      → Counted k 0 p (replicate 32 0) (replicate 32 0) (replicate 32 0) (replicate 4 0)
   unfolding allTo
-  counted-none =
+  counted-none p e z =
       record {
-        tables =
-            record {
-              waiting = counts-none _ _ _ _ _ refl (zeros 32);
-              busy = counts-none _ _ _ _ _ refl (zeros 32);
-              held = counts-none _ _ _ _ _ refl (zeros 32);
-              to = counts-none _ _ _ _ _ refl (zeros 32);
-              on = counts-none _ _ _ _ _ refl (zeros 4);
-            };
+        pairs = counts-none _ _ _ _ _ e z;
+        busy = counts-none _ _ _ _ _ refl (zeros 32);
+        held = counts-none _ _ _ _ _ refl (zeros 32);
+        to = counts-none _ _ _ _ _ refl (zeros 32);
+        on = counts-none _ _ _ _ _ refl (zeros 4);
         right = refl;
       }
 
-  module _ (n : ℕ) (w b h t o : List ℕ) (s : Counted k n w b h t o) where
-    pub counted-free : at (k .kind) n ≡ 0 → Counted k (n + 1) w b h t o
+  module _ (n : ℕ) (p b h t o : List ℕ) (s : Counted k n p b h t o) where
+    pub counted-free : at (k .kind) n ≡ 0 → Counted k (n + 1) p b h t o
     unfolding entryTest
     counted-free e =
         record {
-          tables =
-              record {
-                waiting = counts-miss _ _ _ _ _ _ (s .tables .waiting) (omega arith);
-                busy = counts-miss _ _ _ _ _ _ (s .tables .busy) (omega arith);
-                held = counts-miss _ _ _ _ _ _ (s .tables .held) (omega arith);
-                to = counts-miss _ _ _ _ _ _ (s .tables .to) (omega arith);
-                on = counts-miss _ _ _ _ _ _ (s .tables .on) (omega arith);
-              };
+          pairs = counts-miss _ _ _ _ _ _ (s .pairs) (omega arith);
+          busy = counts-miss _ _ _ _ _ _ (s .busy) (omega arith);
+          held = counts-miss _ _ _ _ _ _ (s .held) (omega arith);
+          to = counts-miss _ _ _ _ _ _ (s .to) (omega arith);
+          on = counts-miss _ _ _ _ _ _ (s .on) (omega arith);
           right = all-more (entryTest k) n (s .right) (or-left _ (eq-eqb (at (k .kind) n) 0 e));
         }
 
@@ -170,34 +170,69 @@ module _ (k : Columns) where
             (and-both (and-both (and-left (getD (k .present) j false) _ there) (lt-ltb d (k .destinations) ld)) (eq-eqb (at (k .transport) j) (at (k .home) d) home))
             (and-right (getD (k .present) j false) _ there))))
 
-        pub counted-waiting : at (k .kind) n ≡ 1 → Counted k (n + 1) (set w j (at w j + 1)) b (set h d (at h d + 1)) t o
+        pub counted-waiting : at (k .kind) n ≡ 1 → Counted k (n + 1) (set p (32 * j + d) (at p (32 * j + d) + 1)) b (set h d (at h d + 1)) t o
         counted-waiting e =
             record {
-              tables =
-                  record {
-                    waiting = counts-hit _ _ _ _ _ _ (s .tables .waiting) j e ej lj;
-                    busy = counts-miss _ _ _ _ _ _ (s .tables .busy) (omega arith);
-                    held = counts-hit _ _ _ _ _ _ (s .tables .held) d e ed (omega arith);
-                    to = counts-miss _ _ _ _ _ _ (s .tables .to) (omega arith);
-                    on = counts-miss _ _ _ _ _ _ (s .tables .on) (omega arith);
-                  };
+              pairs = counts-hit _ _ _ _ _ _ (s .pairs) (32 * j + d) e (omega (arith, ej, ed)) (omega arith);
+              busy = counts-miss _ _ _ _ _ _ (s .busy) (omega arith);
+              held = counts-hit _ _ _ _ _ _ (s .held) d e ed (omega arith);
+              to = counts-miss _ _ _ _ _ _ (s .to) (omega arith);
+              on = counts-miss _ _ _ _ _ _ (s .on) (omega arith);
               right = all-more (entryTest k) n (s .right) (good (inl e));
             }
 
         pub counted-busy : at (k .kind) n ≡ 2 → at (k .home) d < 4
-            → Counted k (n + 1) w (set b j (at b j + 1)) h (set t d (at t d + 1)) (set o (at (k .home) d) (at o (at (k .home) d) + 1))
+            → Counted k (n + 1) p (set b j (at b j + 1)) h (set t d (at t d + 1)) (set o (at (k .home) d) (at o (at (k .home) d) + 1))
         counted-busy e lt =
             record {
-              tables =
-                  record {
-                    waiting = counts-miss _ _ _ _ _ _ (s .tables .waiting) (omega arith);
-                    busy = counts-hit _ _ _ _ _ _ (s .tables .busy) j e ej lj;
-                    held = counts-miss _ _ _ _ _ _ (s .tables .held) (omega arith);
-                    to = counts-hit _ _ _ _ _ _ (s .tables .to) d e ed (omega arith);
-                    on = counts-hit _ _ _ _ _ _ (s .tables .on) (at (k .home) d) e (ap (at (k .home)) ed) lt;
-                  };
+              pairs = counts-miss _ _ _ _ _ _ (s .pairs) (omega arith);
+              busy = counts-hit _ _ _ _ _ _ (s .busy) j e ej lj;
+              held = counts-miss _ _ _ _ _ _ (s .held) (omega arith);
+              to = counts-hit _ _ _ _ _ _ (s .to) d e ed (omega arith);
+              on = counts-hit _ _ _ _ _ _ (s .on) (at (k .home) d) e (ap (at (k .home)) ed) lt;
               right = all-more (entryTest k) n (s .right) (good (inr e));
             }
 
-  pub counted-done : (r : Tally) → r .good ≡ true → Counted k 512 (r .waiting) (r .busy) (r .held) (r .to) (r .on) → Tallied k r
-  counted-done r g s = record { right = g ∙ sym (s .right); tables = λ _. s .tables }
+  module _ (n : ℕ) (p b h t o : List ℕ) (s : Counted k n p b h t o) (few : k .destinations ≤ 32) where
+    -- a waiting entry's destination is below 32
+    below : (e : ℕ) → e < n → at (k .kind) e ≡ 1 → at (k .destination) e < 32
+    unfolding entryTest belongsTest
+    below e l i =
+        let u =
+        ⊎-elim (λ z. absurd (let a = eqb-true (at (k .kind) e) 0 z in omega arith)) (λ z. z)
+        (or-cases (eqb (at (k .kind) e) 0) _ (all-at (entryTest k) n (s .right) e l)) in
+        let f4 =
+        and-4 (getD (k .present) (at (k .job) e) false) (ltb (at (k .destination) e) (k .destinations))
+        (eqb (at (k .transport) (at (k .job) e)) (at (k .home) (at (k .destination) e)))
+        (getD (k .marked) (256 * at (k .job) e + at (k .destination) e) false)
+        (and-right (eqb (at (k .kind) e) 1 || eqb (at (k .kind) e) 2) (belongsTest k e) u) in
+        let lt = ltb-true (at (k .destination) e) (k .destinations) (f4 .1) in
+        omega arith
+
+    pub counted-row : (j : ℕ) → j < 32 → sumTo (λ d. at p (32 * j + d)) 32 ≡ tallyTo (k .kind) 1 (at (k .job)) n j
+    counted-row = row-is (k .kind) (k .job) (k .destination) p n (s .pairs) below
+
+    pub counted-fits : (j : ℕ) → j < 32 → sumTo (λ d. at p (32 * j + d)) 32 ≤ n
+    counted-fits = row-fits (k .kind) (k .job) (k .destination) p n (s .pairs) below
+
+  pub counted-done :
+      (r : Tally)
+      → r .good ≡ true
+      → (p : List ℕ)
+      → Counted k 512 p (r .busy) (r .held) (r .to) (r .on)
+      → k .destinations ≤ 32
+      → length (r .waiting) ≡ 32
+      → ((j : ℕ) → j < 32 → at (r .waiting) j ≡ sumTo (λ d. at p (32 * j + d)) 32)
+      → Tallied k r
+  counted-done r g p s few e h =
+      record {
+        right = g ∙ sym (s .right);
+        tables = λ _.
+            record {
+              waiting = record { size = e; counts = λ j l. h j l ∙ counted-row 512 p _ _ _ _ s few j l };
+              busy = s .busy;
+              held = s .held;
+              to = s .to;
+              on = s .on;
+            };
+      }

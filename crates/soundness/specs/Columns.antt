@@ -94,7 +94,11 @@ pub record Counts (kind : List ℕ) (v : ℕ) (key : ℕ → ℕ) (m n : ℕ) (t
   pub size : length table ≡ m
   pub counts : (x : ℕ) → x < m → at table x ≡ tallyTo kind v key n x
 
--- the five tables after n entries
+-- of each job and destination, how many of the job's entries wait for it
+abbrev pub Paired : List ℕ → List ℕ → List ℕ → List ℕ → Type 0
+Paired kind job destination table = Counts kind 1 (λ e. 32 * at job e + at destination e) 1024 512 table
+
+-- the five tables of the answer after n entries
 pub record Tables (k : Columns) (n : ℕ) (w b h t o : List ℕ) : Type 0 where
   pub waiting : Counts (k .kind) 1 (at (k .job)) 32 n w
   pub busy : Counts (k .kind) 2 (at (k .job)) 32 n b

@@ -6,12 +6,42 @@ ghost use mathlib.Core.Bool.{true, false};
 ghost use Prim.Native.Nat.{ℕ, _+_, _*_, _≤_, _<_};
 ghost use lib.ListN.{length};
 ghost use lib.Dec.{eqb};
-ghost use Rattle.laws.specs.Range.{allTo};
+ghost use Rattle.laws.specs.Range.{allTo, sumTo};
 ghost use Rattle.rules.specs.State.{at};
-ghost use Rattle.soundness.specs.Columns.{columns, Tallied};
+ghost use Rattle.soundness.specs.Columns.{columns, Tallied, Paired};
+
+// The sum of a row of 32 of the table.
+fn row_sum(table: &[u16; 1024], j: usize) -> u16
+    requires { ⌜ j < 32 ⌝ }
+    requires { ⌜ sumTo (λ d. at (now table) (32 * j + d)) 32 ≤ 65535 ⌝ }
+    ensures { λ r. ⌜ r ≡ sumTo (λ d. at (now (table .entry)) (32 * j + d)) 32 ⌝ }
+{
+    let mut sum: u16 = 0;
+    let mut d: usize = 0;
+    while d < 32 {
+        sum += table[32 * j + d];
+        d += 1;
+    }
+    sum
+}
+
+// The sum of each row.
+fn row_sums(table: &[u16; 1024]) -> [u16; 32]
+    requires { ⌜ ((j : ℕ) → j < 32 → sumTo (λ d. at (now table) (32 * j + d)) 32 ≤ 65535) ⌝ }
+    ensures size { λ r. ⌜ length r ≡ 32 ⌝ }
+    ensures sums { λ r. ⌜ ((j : ℕ) → j < 32 → at r j ≡ sumTo (λ d. at (now (table .entry)) (32 * j + d)) 32) ⌝ }
+{
+    let mut sums = [0u16; 32];
+    let mut j: usize = 0;
+    while j < 32 {
+        sums[j] = row_sum(table, j);
+        j += 1;
+    }
+    sums
+}
 
 // One pass over the entries: whether each is free, or waiting or busy, of a present job whose order has its destination, on the destination's
-// transport; and the counts.
+// transport; and the counts. The table of zeros becomes that of the waiting entries of each job to each destination: d of job j at 32 * j + d.
 pub fn count_entries<'a, 'b>(
     kind: &'a [u8; 512],
     job: &'a [u8; 512],
@@ -21,11 +51,14 @@ pub fn count_entries<'a, 'b>(
     home: &[u64; 32],
     destinations: usize,
     marked: &[bool; 8192],
+    pairs: &mut [u16; 1024],
 ) -> Tally
     requires { ⌜ destinations ≤ 32 ⌝ }
     requires { ⌜ length (now present) ≡ 32 ⌝ }
     requires { ⌜ ((d : ℕ) → d < destinations → at (now home) d < 4) ⌝ }
-    ensures { λ r. ⌜ Tallied
+    requires { ⌜ length (now pairs) ≡ 1024 ⌝ }
+    requires { ⌜ ((k : ℕ) → k < 1024 → at (now pairs) k ≡ 0) ⌝ }
+    ensures tally { λ r. ⌜ Tallied
         (columns
         (now (kind .entry))
         (now (job .entry))
@@ -36,8 +69,8 @@ pub fn count_entries<'a, 'b>(
         destinations
         (now (marked .entry)))
         r ⌝ }
+    ensures pairs { λ r. ⌜ (r .good ≡ true → Paired (now (kind .entry)) (now (job .entry)) (now (destination .entry)) (now (pairs .exit))) ⌝ }
 {
-    let mut waiting = [0u16; 32];
     let mut busy = [0u16; 32];
     let mut held = [0u16; 32];
     let mut to = [0u16; 32];
@@ -54,7 +87,7 @@ pub fn count_entries<'a, 'b>(
         if 2 < k {
             return Tally {
                 good: false,
-                waiting,
+                waiting: [0u16; 32],
                 busy,
                 held,
                 to,
@@ -64,7 +97,7 @@ pub fn count_entries<'a, 'b>(
         if 32 <= j {
             return Tally {
                 good: false,
-                waiting,
+                waiting: [0u16; 32],
                 busy,
                 held,
                 to,
@@ -74,7 +107,7 @@ pub fn count_entries<'a, 'b>(
         if destinations <= d {
             return Tally {
                 good: false,
-                waiting,
+                waiting: [0u16; 32],
                 busy,
                 held,
                 to,
@@ -84,7 +117,7 @@ pub fn count_entries<'a, 'b>(
         if !(present[j] & marked[256 * j + d]) {
             return Tally {
                 good: false,
-                waiting,
+                waiting: [0u16; 32],
                 busy,
                 held,
                 to,
@@ -96,7 +129,7 @@ pub fn count_entries<'a, 'b>(
         if t != h {
             return Tally {
                 good: false,
-                waiting,
+                waiting: [0u16; 32],
                 busy,
                 held,
                 to,
@@ -104,7 +137,7 @@ pub fn count_entries<'a, 'b>(
             };
         }
         if k == 1 {
-            waiting[j] += 1;
+            pairs[32 * j + d] += 1;
             held[d] += 1;
             e += 1;
             continue;
@@ -114,6 +147,7 @@ pub fn count_entries<'a, 'b>(
         on[h as usize] += 1;
         e += 1;
     }
+    let waiting = row_sums(pairs);
     Tally {
         good: true,
         waiting,

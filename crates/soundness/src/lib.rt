@@ -8,8 +8,12 @@ mod lists;
 mod orders;
 
 ghost use mathlib.Core.Path.{_≡_};
-ghost use Prim.Native.Nat.{_<_};
+ghost use mathlib.Core.Bool.{true};
+ghost use Prim.Native.Nat.{ℕ, _<_};
+ghost use lib.ListN.{length};
+ghost use Rattle.rules.specs.State.{at};
 ghost use Rattle.rules.specs.Sound.{sound};
+ghost use Rattle.soundness.specs.Columns.{Paired};
 
 // A number of a column, wide enough to be an index or to be added to.
 fn wide(x: u8) -> usize
@@ -29,9 +33,11 @@ pub struct Tally {
     pub on: [u16; 4],
 }
 
-// Whether a state is sound.
-pub fn sound(s: State) -> bool
-    ensures { λ r. ⌜ r ≡ sound s ⌝ }
+// Whether a state is sound. Where it is, the table of zeros becomes that of the waiting entries of each job to each destination.
+pub fn sound_with(s: State, pairs: &mut [u16; 1024]) -> bool
+    requires { ⌜ (length (now pairs) ≡ 1024) × ((k : ℕ) → k < 1024 → at (now pairs) k ≡ 0) ⌝ }
+    ensures answer { λ r. ⌜ r ≡ sound s ⌝ }
+    ensures pairs { λ r. ⌜ (r ≡ true → Paired (s .entries .kind) (s .entries .job) (s .entries .destination) (now (pairs .exit))) ⌝ }
 {
     let u = s.setup;
     if !startup::in_range(u) {
@@ -58,6 +64,7 @@ pub fn sound(s: State) -> bool
         &home,
         destinations,
         &marked,
+        pairs,
     );
     if !counted.good {
         return false;
@@ -92,4 +99,12 @@ pub fn sound(s: State) -> bool
     }
     let states = s.destinations;
     destinations::destinations_right(u, states, held)
+}
+
+// Whether a state is sound, where the table is not wanted.
+pub fn sound(s: State) -> bool
+    ensures { λ r. ⌜ r ≡ sound s ⌝ }
+{
+    let mut pairs = [0u16; 1024];
+    sound_with(s, &mut pairs)
 }

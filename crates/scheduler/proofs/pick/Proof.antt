@@ -1,12 +1,12 @@
 -- The state's shape is in its type. What each step asks follows from soundness and from what was chosen; where the ways of the preemption meet,
 -- `from` says which state it is. Assumes nothing.
 use Prim.Native.Nat.{ℕ, _<_, _≤_}
-use mathlib.Core.Path.{_≡_, sym, _∙_, ap, subst}
+use mathlib.Core.Path.{_≡_, refl, sym, _∙_, ap, subst}
 use mathlib.Core.Logic.{_⊎_, inl, inr, ⊎-elim}
 use mathlib.Core.List.{[], _∷_}
 use native.Mathlib.Nat.{le-refl}
 use native.Mathlib.Omega.{arith}
-use lib.ListN.{length, getD}
+use lib.ListN.{length, getD, getD-replicate}
 use borrow.Author.Needs.{needs}
 use borrow.Author.Tests.{not-true, not-false}
 use Rattle.laws.specs.Sequence.{moveBefore}
@@ -67,87 +67,92 @@ shaped c =
     }
 
 -- the refusals have passed
-unrefused : (c : tie.Else3) → pickRefusal (c .before .before .before .before .before .args .s) (c .before .before .before .before .before .args .now) ≡ 0
-unrefused c = pick-unrefused (c .before .before .before .before .before .args .s) (c .before .before .before .before .before .args .now) (sym (c .before .before .before .before .sound .ensures) ∙ not-false _ (c .before .before .before .if1 .left)) (c .before .if2 .left) (c .if3 .left)
+unrefused : (c : tie.Else3) → pickRefusal (c .before .before .before .before .before .before .args .s) (c .before .before .before .before .before .before .args .now) ≡ 0
+unrefused c = pick-unrefused (c .before .before .before .before .before .before .args .s) (c .before .before .before .before .before .before .args .now) (sym (c .before .before .before .before .sound-with .ensures .0) ∙ not-false _ (c .before .before .before .if1 .left)) (c .before .if2 .left) (c .if3 .left)
 
-start : (c : tie.Else3) → Ready (c .before .before .before .before .before .args .s) (c .before .before .before .before .before .args .now)
-start c = ready (c .before .before .before .before .before .args .s) (c .before .before .before .before .before .args .now) (shaped (c .before .before .before .before .before)) (unrefused c)
+start : (c : tie.Else3) → Ready (c .before .before .before .before .before .before .args .s) (c .before .before .before .before .before .before .args .now)
+start c = ready (c .before .before .before .before .before .before .args .s) (c .before .before .before .before .before .before .args .now) (shaped (c .before .before .before .before .before .before)) (unrefused c)
 
 -- the state that the code has woken
 abbrev woke : tie.After-wake → State
-woke c = built (c .before .before .before .before .before .before .before .before .args .s) (c .before .before .before .before .before .before .before .before .args .now) (c .wake .result)
+woke c = built (c .before .before .before .before .before .before .before .before .before .args .s) (c .before .before .before .before .before .before .before .before .before .args .now) (c .wake .result)
 
-awake : (c : tie.After-wake) → woke c ≡ woken (c .before .before .before .before .before .before .before .before .args .s) (c .before .before .before .before .before .before .before .before .args .now)
-awake c = woken-built (c .before .before .before .before .before .before .before .before .args .s) (c .before .before .before .before .before .before .before .before .args .now) (c .wake .result) (c .wake .ensures)
+awake : (c : tie.After-wake) → woke c ≡ woken (c .before .before .before .before .before .before .before .before .before .args .s) (c .before .before .before .before .before .before .before .before .before .args .now)
+awake c = woken-built (c .before .before .before .before .before .before .before .before .before .args .s) (c .before .before .before .before .before .before .before .before .before .args .now) (c .wake .result) (c .wake .ensures)
 
-may-pay : (c : tie.Then5) → MayPreempt (woke (c .before .before .before .before .before .before .before)) (c .before .before .before .before .before .before .choose .result .transport) (c .before .before .before .before .before .before .choose .result .job) (c .before .before .before .before .before .before .choose .result .current) (c .before .before .before .before .before .before .choose .result .waiting)
-may-pay c = may-move (c .before .before .before .before .before .before .before .before .before .before .before .before .before .before .before .args .s) (c .before .before .before .before .before .before .before .before .before .before .before .before .before .before .before .args .now) (start (c .before .before .before .before .before .before .before .before .before .before)) _ (awake (c .before .before .before .before .before .before .before)) (c .before .before .before .before .before .before .choose .result) (c .before .before .before .before .before .before .choose .ensures) (not-false _ (c .before .before .before .before .if4 .left)) (c .if5 .taken)
+may-pay : (c : tie.Then5) → MayPreempt (woke (c .before .before .before .before .before .before .before .before)) (c .before .before .before .before .before .before .choose .result .transport) (c .before .before .before .before .before .before .choose .result .job) (c .before .before .before .before .before .before .choose .result .current) (c .before .before .before .before .before .before .choose .result .waiting)
+may-pay c = may-move (c .before .before .before .before .before .before .before .before .before .before .before .before .before .before .before .before .before .args .s) (c .before .before .before .before .before .before .before .before .before .before .before .before .before .before .before .before .before .args .now) (start (c .before .before .before .before .before .before .before .before .before .before .before)) _ (awake (c .before .before .before .before .before .before .before .before)) (c .before .before .before .before .before .before .choose .result) (c .before .before .before .before .before .before .choose .ensures) (not-false _ (c .before .before .before .before .if4 .left)) (c .if5 .taken)
 
 -- where the ways meet: the woken state, or that after a preemption
-from : (c : tie.Joined5) → ((c .before .before .before .before .before .before .choose .result .preemptor ≡ 0) × (c .if5 .next ≡ woke (c .before .before .before .before .before .before .before)))
-    ⊎ ((c .before .before .before .before .before .before .choose .result .preemptor ≡ 0 → ⊥) × (c .if5 .next ≡ preempting (woke (c .before .before .before .before .before .before .before)) (c .before .before .before .before .before .before .choose .result .transport) (c .before .before .before .before .before .before .choose .result .job) (c .before .before .before .before .before .before .choose .result .current) (c .before .before .before .before .before .before .choose .result .waiting)))
+from : (c : tie.Joined5) → ((c .before .before .before .before .before .before .choose .result .preemptor ≡ 0) × (c .if5 .next ≡ woke (c .before .before .before .before .before .before .before .before)))
+    ⊎ ((c .before .before .before .before .before .before .choose .result .preemptor ≡ 0 → ⊥) × (c .if5 .next ≡ preempting (woke (c .before .before .before .before .before .before .before .before)) (c .before .before .before .before .before .before .choose .result .transport) (c .before .before .before .before .before .before .choose .result .job) (c .before .before .before .before .before .before .choose .result .current) (c .before .before .before .before .before .before .choose .result .waiting)))
 from c =
     ⊎-elim
     (λ a. inr (
       a .0 .taken,
       a .15
-          ∙ preempt-is (woke (c .before .before .before .before .before .before .before)) (c .before .before .before .before .before .before .choose .result .transport) (c .before .before .before .before .before .before .choose .result .job) (c .before .before .before .before .before .before .choose .result .current) (c .before .before .before .before .before .before .choose .result .waiting) (a .3 .result) _ _ _ _
-          (a .3 .ensures ∙ ap (λ q. listed (moveBefore (c .before .before .before .before .before .before .choose .result .job) (c .before .before .before .before .before .before .choose .result .current) (listOf q))) (same-list (woke (c .before .before .before .before .before .before .before)) (c .before .before .before .before .before .before .choose .result .transport) (pays (a .0 .taken) .lists) (pays (a .0 .taken) .lane)))
+          ∙ preempt-is (woke (c .before .before .before .before .before .before .before .before)) (c .before .before .before .before .before .before .choose .result .transport) (c .before .before .before .before .before .before .choose .result .job) (c .before .before .before .before .before .before .choose .result .current) (c .before .before .before .before .before .before .choose .result .waiting) (a .3 .result) _ _ _ _
+          (a .3 .ensures ∙ ap (λ q. listed (moveBefore (c .before .before .before .before .before .before .choose .result .job) (c .before .before .before .before .before .before .choose .result .current) (listOf q))) (same-list (woke (c .before .before .before .before .before .before .before .before)) (c .before .before .before .before .before .before .choose .result .transport) (pays (a .0 .taken) .lists) (pays (a .0 .taken) .lane)))
           (a .7 .ensures) (a .9 .ensures) (a .12 .ensures) (a .14 .ensures),
     ))
     (λ b. inl (b .0 .left, b .1))
     (c .if5 .came)
   where
-    pays : (c .before .before .before .before .before .before .choose .result .preemptor ≡ 0 → ⊥) → MayPreempt (woke (c .before .before .before .before .before .before .before)) (c .before .before .before .before .before .before .choose .result .transport) (c .before .before .before .before .before .before .choose .result .job) (c .before .before .before .before .before .before .choose .result .current) (c .before .before .before .before .before .before .choose .result .waiting)
-    pays h = may-move (c .before .before .before .before .before .before .before .before .before .before .before .before .before .before .before .args .s) (c .before .before .before .before .before .before .before .before .before .before .before .before .before .before .before .args .now) (start (c .before .before .before .before .before .before .before .before .before .before)) _ (awake (c .before .before .before .before .before .before .before)) (c .before .before .before .before .before .before .choose .result) (c .before .before .before .before .before .before .choose .ensures) (not-false _ (c .before .before .before .before .if4 .left)) h
+    pays : (c .before .before .before .before .before .before .choose .result .preemptor ≡ 0 → ⊥) → MayPreempt (woke (c .before .before .before .before .before .before .before .before)) (c .before .before .before .before .before .before .choose .result .transport) (c .before .before .before .before .before .before .choose .result .job) (c .before .before .before .before .before .before .choose .result .current) (c .before .before .before .before .before .before .choose .result .waiting)
+    pays h = may-move (c .before .before .before .before .before .before .before .before .before .before .before .before .before .before .before .before .before .args .s) (c .before .before .before .before .before .before .before .before .before .before .before .before .before .before .before .before .before .args .now) (start (c .before .before .before .before .before .before .before .before .before .before .before)) _ (awake (c .before .before .before .before .before .before .before .before)) (c .before .before .before .before .before .before .choose .result) (c .before .before .before .before .before .before .choose .ensures) (not-false _ (c .before .before .before .before .if4 .left)) h
 
 may-hand : (c : tie.Joined5) → MayHandOut (c .if5 .next) (c .before .before .before .before .before .before .choose .result .transport) (c .before .before .before .before .before .before .choose .result .job) (c .before .before .before .before .before .before .choose .result .place) (c .before .before .before .before .before .before .choose .result .entry)
 may-hand c =
     ⊎-elim
-    (λ a. subst (λ m. MayHandOut m (c .before .before .before .before .before .before .choose .result .transport) (c .before .before .before .before .before .before .choose .result .job) (c .before .before .before .before .before .before .choose .result .place) (c .before .before .before .before .before .before .choose .result .entry)) (sym (a .1)) (may-hand-plain (c .before .before .before .before .before .before .before .before .before .before .before .before .before .before .before .args .s) (c .before .before .before .before .before .before .before .before .before .before .before .before .before .before .before .args .now) (start (c .before .before .before .before .before .before .before .before .before .before)) _ (awake (c .before .before .before .before .before .before .before)) (c .before .before .before .before .before .before .choose .result) (c .before .before .before .before .before .before .choose .ensures) (not-false _ (c .before .before .before .before .if4 .left)) (a .0)))
-    (λ a. may-hand-moved (c .before .before .before .before .before .before .before .before .before .before .before .before .before .before .before .args .s) (c .before .before .before .before .before .before .before .before .before .before .before .before .before .before .before .args .now) (start (c .before .before .before .before .before .before .before .before .before .before)) _ (awake (c .before .before .before .before .before .before .before)) (c .before .before .before .before .before .before .choose .result) (c .before .before .before .before .before .before .choose .ensures) (not-false _ (c .before .before .before .before .if4 .left)) (c .if5 .next) (a .0) (a .1))
+    (λ a. subst (λ m. MayHandOut m (c .before .before .before .before .before .before .choose .result .transport) (c .before .before .before .before .before .before .choose .result .job) (c .before .before .before .before .before .before .choose .result .place) (c .before .before .before .before .before .before .choose .result .entry)) (sym (a .1)) (may-hand-plain (c .before .before .before .before .before .before .before .before .before .before .before .before .before .before .before .before .before .args .s) (c .before .before .before .before .before .before .before .before .before .before .before .before .before .before .before .before .before .args .now) (start (c .before .before .before .before .before .before .before .before .before .before .before)) _ (awake (c .before .before .before .before .before .before .before .before)) (c .before .before .before .before .before .before .choose .result) (c .before .before .before .before .before .before .choose .ensures) (not-false _ (c .before .before .before .before .if4 .left)) (a .0)))
+    (λ a. may-hand-moved (c .before .before .before .before .before .before .before .before .before .before .before .before .before .before .before .before .before .args .s) (c .before .before .before .before .before .before .before .before .before .before .before .before .before .before .before .before .before .args .now) (start (c .before .before .before .before .before .before .before .before .before .before .before)) _ (awake (c .before .before .before .before .before .before .before .before)) (c .before .before .before .before .before .before .choose .result) (c .before .before .before .before .before .before .choose .ensures) (not-false _ (c .before .before .before .before .if4 .left)) (c .if5 .next) (a .0) (a .1))
     (from c)
 
 -- what is given once the entry is handed out
 given : (c : tie.Joined5) (out : State) → out ≡ handedOut (c .if5 .next) (c .before .before .before .before .before .before .choose .result .transport) (c .before .before .before .before .before .before .choose .result .job) (c .before .before .before .before .before .before .choose .result .place) (c .before .before .before .before .before .before .choose .result .entry)
     → record {
-      says = answers ((c .before .before .before .before .before .before .choose .result .job) ∷ (c .before .before .before .before .before .before .choose .result .entry) ∷ (c .before .before .before .before .before .before .before .before .before .before .before .before .before .before .before .args .s .ticket) ∷ (c .before .before .before .before .before .before .choose .result .passed) ∷ []);
+      says = answers ((c .before .before .before .before .before .before .choose .result .job) ∷ (c .before .before .before .before .before .before .choose .result .entry) ∷ (c .before .before .before .before .before .before .before .before .before .before .before .before .before .before .before .before .before .args .s .ticket) ∷ (c .before .before .before .before .before .before .choose .result .passed) ∷ []);
       state = out;
       buffer = [];
-    } ≡ afterPick (woken (c .before .before .before .before .before .before .before .before .before .before .before .before .before .before .before .args .s) (c .before .before .before .before .before .before .before .before .before .before .before .before .before .before .before .args .now)) (c .before .before .before .before .before .before .before .before .before .before .before .before .before .before .before .args .now)
+    } ≡ afterPick (woken (c .before .before .before .before .before .before .before .before .before .before .before .before .before .before .before .before .before .args .s) (c .before .before .before .before .before .before .before .before .before .before .before .before .before .before .before .before .before .args .now)) (c .before .before .before .before .before .before .before .before .before .before .before .before .before .before .before .before .before .args .now)
 given c out h =
     ⊎-elim
-    (λ a. gives-plain (c .before .before .before .before .before .before .before .before .before .before .before .before .before .before .before .args .s) (c .before .before .before .before .before .before .before .before .before .before .before .before .before .before .before .args .now) (start (c .before .before .before .before .before .before .before .before .before .before)) _ (awake (c .before .before .before .before .before .before .before)) (c .before .before .before .before .before .before .choose .result) (c .before .before .before .before .before .before .choose .ensures) (not-false _ (c .before .before .before .before .if4 .left)) out (a .0) (h ∙ ap (λ m. handedOut m (c .before .before .before .before .before .before .choose .result .transport) (c .before .before .before .before .before .before .choose .result .job) (c .before .before .before .before .before .before .choose .result .place) (c .before .before .before .before .before .before .choose .result .entry)) (a .1)))
-    (λ a. gives-moved (c .before .before .before .before .before .before .before .before .before .before .before .before .before .before .before .args .s) (c .before .before .before .before .before .before .before .before .before .before .before .before .before .before .before .args .now) (start (c .before .before .before .before .before .before .before .before .before .before)) _ (awake (c .before .before .before .before .before .before .before)) (c .before .before .before .before .before .before .choose .result) (c .before .before .before .before .before .before .choose .ensures) (not-false _ (c .before .before .before .before .if4 .left)) (c .if5 .next) out (a .0) (a .1) h)
+    (λ a. gives-plain (c .before .before .before .before .before .before .before .before .before .before .before .before .before .before .before .before .before .args .s) (c .before .before .before .before .before .before .before .before .before .before .before .before .before .before .before .before .before .args .now) (start (c .before .before .before .before .before .before .before .before .before .before .before)) _ (awake (c .before .before .before .before .before .before .before .before)) (c .before .before .before .before .before .before .choose .result) (c .before .before .before .before .before .before .choose .ensures) (not-false _ (c .before .before .before .before .if4 .left)) out (a .0) (h ∙ ap (λ m. handedOut m (c .before .before .before .before .before .before .choose .result .transport) (c .before .before .before .before .before .before .choose .result .job) (c .before .before .before .before .before .before .choose .result .place) (c .before .before .before .before .before .before .choose .result .entry)) (a .1)))
+    (λ a. gives-moved (c .before .before .before .before .before .before .before .before .before .before .before .before .before .before .before .before .before .args .s) (c .before .before .before .before .before .before .before .before .before .before .before .before .before .before .before .before .before .args .now) (start (c .before .before .before .before .before .before .before .before .before .before .before)) _ (awake (c .before .before .before .before .before .before .before .before)) (c .before .before .before .before .before .before .choose .result) (c .before .before .before .before .before .before .choose .ensures) (not-false _ (c .before .before .before .before .if4 .left)) (c .if5 .next) out (a .0) (a .1) h)
     (from c)
 
-sound-requires : tie.Need-sound-requires
-sound-requires c κs = search needs
+sound-with-requires : tie.Need-sound-with-requires
+sound-with-requires c κs = (refl, λ k l. getD-replicate 1024 k 0 0 l)
 
 returns : tie.Need-returns
-returns c = pick-unsound (c .before .before .args .s) (c .before .before .args .now) (sym (c .before .sound .ensures) ∙ not-true _ (c .if1 .taken))
+returns c = pick-unsound (c .before .before .before .args .s) (c .before .before .before .args .now) (sym (c .before .sound-with .ensures .0) ∙ not-true _ (c .if1 .taken))
 
 cast-if2 : tie.Need-cast-if2
 cast-if2 c = search needs
 
 returns-2 : tie.Need-returns-2
-returns-2 c = pick-early (c .before .before .before .before .args .s) (c .before .before .before .before .args .now) (sym (c .before .before .before .sound .ensures) ∙ not-false _ (c .before .before .if1 .left)) (c .if2 .taken)
+returns-2 c = pick-early (c .before .before .before .before .before .args .s) (c .before .before .before .before .before .args .now) (sym (c .before .before .before .sound-with .ensures .0) ∙ not-false _ (c .before .before .if1 .left)) (c .if2 .taken)
 
 returns-3 : tie.Need-returns-3
-returns-3 c = pick-late (c .before .before .before .before .before .args .s) (c .before .before .before .before .before .args .now) (sym (c .before .before .before .before .sound .ensures) ∙ not-false _ (c .before .before .before .if1 .left)) (c .before .if2 .left) (c .if3 .taken)
+returns-3 c = pick-late (c .before .before .before .before .before .before .args .s) (c .before .before .before .before .before .before .args .now) (sym (c .before .before .before .before .sound-with .ensures .0) ∙ not-false _ (c .before .before .before .if1 .left)) (c .before .if2 .left) (c .if3 .taken)
 
 wake-requires : tie.Need-wake-requires
 wake-requires c κs = start (c .before .before) .setup
 
 cast-next : tie.Need-cast-next
-cast-next c = fits-clock (c .before .before .before .before .before .before .before .before .args .now) (start (c .before .before .before) .early)
+cast-next c = fits-clock (c .before .before .before .before .before .before .before .before .before .args .now) (start (c .before .before .before) .early)
 
 choose-requires : tie.Need-choose-requires
-choose-requires c κs = (own-sound (c .before .before .before .before .before .before .before .before .args .s) (c .before .before .before .before .before .before .before .before .args .now) (start (c .before .before .before)) _ (awake c), le-refl (c .before .before .before .before .before .before .before .before .args .now), start (c .before .before .before) .early)
+choose-requires c κs = (
+  own-sound (c .before .before .before .before .before .before .before .before .before .before .args .s) (c .before .before .before .before .before .before .before .before .before .before .args .now) (start (c .before .before .before .before)) _ (awake (c .before)),
+  le-refl (c .before .before .before .before .before .before .before .before .before .before .args .now),
+  start (c .before .before .before .before) .early,
+  c .before .before .before .before .before .before .before .before .sound-with .ensures .1 (not-false _ (c .before .before .before .before .before .before .before .if1 .left)),
+)
 
 returns-4 : tie.Need-returns-4
-returns-4 c = pick-made (c .before .before .before .before .before .before .before .before .before .before .before .args .s) (c .before .before .before .before .before .before .before .before .before .before .before .args .now) _ (unrefused (c .before .before .before .before .before .before))
-    (gives-nothing (c .before .before .before .before .before .before .before .before .before .before .before .args .s) (c .before .before .before .before .before .before .before .before .before .before .before .args .now) (start (c .before .before .before .before .before .before)) _ (awake (c .before .before .before)) (c .before .before .choose .result) (c .before .before .choose .ensures) (not-true _ (c .if4 .taken)))
+returns-4 c = pick-made (c .before .before .before .before .before .before .before .before .before .before .before .before .before .args .s) (c .before .before .before .before .before .before .before .before .before .before .before .before .before .args .now) _ (unrefused (c .before .before .before .before .before .before .before))
+    (gives-nothing (c .before .before .before .before .before .before .before .before .before .before .before .before .before .args .s) (c .before .before .before .before .before .before .before .before .before .before .before .before .before .args .now) (start (c .before .before .before .before .before .before .before)) _ (awake (c .before .before .before .before)) (c .before .before .choose .result) (c .before .before .choose .ensures) (not-true _ (c .if4 .taken)))
 
 cast-lane : tie.Need-cast-lane
 cast-lane c = search needs
@@ -166,7 +171,7 @@ element-copy-out-q c = may-pay (c .before) .lane
 
 move-before-requires : tie.Need-move-before-requires
 move-before-requires c κs = let m = may-pay (c .before .before) in
-    rw (same-list (woke (c .before .before .before .before .before .before .before .before .before)) (c .before .before .before .before .before .before .before .before .choose .result .transport) (m .lists) (m .lane)) (m .count, (m .other, (m .movers, m .payers)))
+    rw (same-list (woke (c .before .before .before .before .before .before .before .before .before .before)) (c .before .before .before .before .before .before .before .before .choose .result .transport) (m .lists) (m .lane)) (m .count, (m .other, (m .movers, m .payers)))
 
 mul-queue : tie.Need-mul-queue
 mul-queue c = omega (arith, may-pay (c .before .before .before) .lane)
@@ -226,7 +231,7 @@ add-next : tie.Need-add-next
 add-next c = omega (arith, may-hand (c .before .before .before .before .before .before .before .before .before .before .before .before .before .before .before .before .before .before .before) .lane)
 
 returns-5 : tie.Need-returns-5
-returns-5 c = pick-made (c .before .before .before .before .before .before .before .before .before .before .before .before .before .before .before .before .before .before .before .before .before .before .before .before .before .before .before .before .before .before .before .before .before .before .args .s) (c .before .before .before .before .before .before .before .before .before .before .before .before .before .before .before .before .before .before .before .before .before .before .before .before .before .before .before .before .before .before .before .before .before .before .args .now) _ (unrefused (c .before .before .before .before .before .before .before .before .before .before .before .before .before .before .before .before .before .before .before .before .before .before .before .before .before .before .before .before .before))
+returns-5 c = pick-made (c .before .before .before .before .before .before .before .before .before .before .before .before .before .before .before .before .before .before .before .before .before .before .before .before .before .before .before .before .before .before .before .before .before .before .before .before .args .s) (c .before .before .before .before .before .before .before .before .before .before .before .before .before .before .before .before .before .before .before .before .before .before .before .before .before .before .before .before .before .before .before .before .before .before .before .before .args .now) _ (unrefused (c .before .before .before .before .before .before .before .before .before .before .before .before .before .before .before .before .before .before .before .before .before .before .before .before .before .before .before .before .before .before))
     (given (c .before .before .before .before .before .before .before .before .before .before .before .before .before .before .before .before .before .before .before) _
     (hand-out-is (c .before .before .before .before .before .before .before .before .before .before .before .before .before .before .before .before .before .before .before .if5 .next) (c .before .before .before .before .before .before .before .before .before .before .before .before .before .before .before .before .before .before .before .before .before .before .before .before .before .choose .result .transport) (c .before .before .before .before .before .before .before .before .before .before .before .before .before .before .before .before .before .before .before .before .before .before .before .before .before .choose .result .job) (c .before .before .before .before .before .before .before .before .before .before .before .before .before .before .before .before .before .before .before .before .before .before .before .before .before .choose .result .place) (c .before .before .before .before .before .before .before .before .before .before .before .before .before .before .before .before .before .before .before .before .before .before .before .before .before .choose .result .entry)
     (c .before .before .before .before .before .before .before .before .before .before .before .before .before .before .before .read .result) (c .before .next-ticket .result) _ _ _ _ _ _
@@ -236,7 +241,7 @@ pub pick-spec : {M : Type 1} → statement M
 pick-spec =
     tie.close
     (tie.spec
-    sound-requires
+    sound-with-requires
     returns
     cast-if2
     returns-2

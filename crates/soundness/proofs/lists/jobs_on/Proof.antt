@@ -36,7 +36,7 @@ loop-less : tie.Need-loop-less Inv-loop μ-loop
 loop-less c = omega arith
 
 loop-again : tie.Need-loop-again Inv-loop μ-loop
-loop-again c = (omega arith, length-set (c .before .before .before .loop .on) (c .before .before .before .loop .j) _ ∙ c .before .before .before .loop .inv .1, fill-turn _ (c .before .before .before .loop .on) (c .before .before .before .loop .j) _ (omega arith) refl (c .before .before .before .loop .inv .2))
+loop-again c = (omega arith, length-set (c .before .before .before .loop .on) (c .before .before .before .loop .j) _ ∙ c .before .before .before .loop .inv .1, fill-turn false _ (c .before .before .before .loop .on) (c .before .before .before .loop .j) _ (omega arith) refl (c .before .before .before .loop .inv .2))
 
 returns : tie.Need-returns Inv-loop μ-loop
 returns c = λ j l. c .before .loop .inv .2 j (omega arith)
