@@ -1,20 +1,22 @@
--- The rows of the table of jobs and destinations.
+-- The rows and the columns of the table of jobs and destinations.
 use Prim.Native.Nat.{ℕ, zero, suc, _+_, _*_, _≤_, _<_}
 use mathlib.Core.Bool.{Bool, true, _&&_}
-use mathlib.Core.Path.{_≡_, refl, sym, _∙_}
+use mathlib.Core.Path.{_≡_, refl, sym, _∙_, ap}
 use mathlib.Core.List.{List}
-use native.Mathlib.Decide.{ℕ-discrete}
 use native.Mathlib.Numerals.{add-one}
 use native.Mathlib.Omega.{arith}
 use lib.Dec.{eqb}
+use lib.ListN.{length, set, length-set}
+use lib.Seq.{getD-set-other}
 use borrow.Author.Tests.{eq-eqb, ne-eqb, eqb-true}
 use Rattle.laws.specs.Choice.{one}
 use Rattle.laws.specs.Range.{countTo, sumTo}
-use Rattle.laws.proofs.Choice.{case-bool, and-both, and-left-false, and-right-false, one-true, one-false}
+use Rattle.laws.proofs.Choice.{case-bool, bool-same, and-both, and-left, and-right, and-left-false, and-right-false, one-false}
 use Rattle.laws.proofs.Sum.{sum-eq, sum-zero, sum-add, sum-suc, sum-more, sum-change}
 use Rattle.laws.proofs.Count.{count-le-bound}
 use Rattle.rules.specs.State.{at}
 use Rattle.soundness.specs.Columns.{tallyTo, Counts}
+use Rattle.soundness.proofs.Laws.{fill-turn}
 
 -- one turn of a loop that sums
 
@@ -28,54 +30,97 @@ sum-turn f i sum e = rw add-one (omega (arith, e, sum-suc f i))
 pub sum-fits : (f : ℕ → ℕ) (i n sum most : ℕ) → i < n → sum ≡ sumTo f i → sumTo f n ≤ most → sum + f i ≤ most
 sum-fits f i n sum most l e h = omega (arith, e, sum-suc f i, sum-more f (suc i) n (omega arith))
 
--- just one place of row j is that of x and y, where x is j
-one-place : (b : Bool) (x y j : ℕ) → (b ≡ true → y < 32) → sumTo (λ d. one (b && eqb (32 * x + y) (32 * j + d))) 32 ≡ one (b && eqb x j)
-one-place b x y j h =
-    case-bool b
-    (λ t. elim (ℕ-discrete x j) [
-      | yes i ↦
-          (let u = sum-change (λ d. 0) (λ d. one (b && eqb (32 * x + y) (32 * j + d))) y 32 (h t)
-          (λ d l ne. one-false (and-right-false b (ne-eqb (32 * x + y) (32 * j + d) (omega arith)))) in
-          omega (
-            arith,
-            u,
-            sum-zero (λ d. 0) 32 (λ d l. refl),
-            one-true (and-both t (eq-eqb (32 * x + y) (32 * j + y) (omega arith))),
-            one-true (and-both t (eq-eqb x j i)),
-          ))
-      | no ne ↦
-          sum-zero (λ d. one (b && eqb (32 * x + y) (32 * j + d))) 32
-          (λ d l. one-false (and-right-false b (ne-eqb (32 * x + y) (32 * j + d) (let k = h t in omega (arith, k)))))
-          ∙ sym (one-false (and-right-false b (ne-eqb x j ne)))
-    ])
-    (λ f.
-    sum-zero (λ d. one (b && eqb (32 * x + y) (32 * j + d))) 32 (λ d l. one-false (and-left-false (eqb (32 * x + y) (32 * j + d)) f))
-    ∙ sym (one-false (and-left-false (eqb x j) f)))
+-- to the first d places of a table of 32 something is added
+pub record Added (f : ℕ → ℕ) (before after : List ℕ) (d : ℕ) : Type 0 where
+  pub size : length after ≡ 32
+  pub done : (i : ℕ) → i < d → at after i ≡ at before i + f i
+  pub rest : (i : ℕ) → d ≤ i → at after i ≡ at before i
 
--- what is counted by x is what is counted by x and y, summed over y
-module _ (p : ℕ → Bool) (x y : ℕ → ℕ) (j : ℕ) where
-  pub count-row : (n : ℕ) → ((e : ℕ) → e < n → p e ≡ true → y e < 32)
-      → countTo (λ e. p e && eqb (x e) j) n ≡ sumTo (λ d. countTo (λ e. p e && eqb (32 * x e + y e) (32 * j + d)) n) 32
-  unfolding countTo
-  count-row zero h = sym (sum-zero (λ d. 0) 32 (λ d l. refl))
-  count-row (suc n) h =
+pub added-none : (f : ℕ → ℕ) (before : List ℕ) → length before ≡ 32 → Added f before before 0
+added-none f before e = record { size = e; done = λ i l. absurd (omega arith); rest = λ i l. refl }
+
+module _ (f : ℕ → ℕ) (before after : List ℕ) (d : ℕ) (s : Added f before after d) (l : d < 32) where
+  pub added-fits : (most : ℕ) → ((i : ℕ) → i < 32 → at before i + f i ≤ most) → at after d + f d ≤ most
+  added-fits most h = omega (arith, h d l, s .rest d (omega arith))
+
+  pub added-more : Added f before (set after d (at after d + f d)) (d + 1)
+  added-more =
+      record {
+        size = length-set after d (at after d + f d) ∙ s .size;
+        done = fill-turn 0 (λ i. at before i + f i) after d (at after d + f d) (omega (arith, s .size)) (omega (arith, s .rest d (omega arith))) (s .done);
+        rest = λ i m. getD-set-other after d i (at after d + f d) 0 (omega arith) ∙ s .rest i (omega arith);
+      }
+
+and-swap : (a b : Bool) → a && b ≡ b && a
+and-swap a b = bool-same (λ t. and-both (and-right a b t) (and-left a b t)) (λ t. and-both (and-right b a t) (and-left b a t))
+
+-- the place of a job and a destination is no other pair's
+pair-test : (x y j d : ℕ) → y < 32 → d < 32 → eqb (32 * x + y) (32 * j + d) ≡ eqb x j && eqb y d
+pair-test x y j d l m =
+    bool-same (λ t. let e = eqb-true (32 * x + y) (32 * j + d) t in and-both (eq-eqb x j (omega arith)) (eq-eqb y d (omega arith)))
+    (λ t.
+    let a = eqb-true x j (and-left (eqb x j) (eqb y d) t) in
+    let b = eqb-true y d (and-right (eqb x j) (eqb y d) t) in
+    eq-eqb (32 * x + y) (32 * j + d) (omega arith))
+
+-- what is counted of a line of places is what is counted of each of them, if an entry of the line is at just one place
+module _ (p q : ℕ → Bool) (key index place : ℕ → ℕ) where
+  one-place : (e : ℕ) → (p e ≡ true → index e < 32) → (p e ≡ true → (z : ℕ) → z < 32 → eqb (key e) (place z) ≡ q e && eqb (index e) z)
+      → sumTo (λ z. one (p e && eqb (key e) (place z))) 32 ≡ one (p e && q e)
+  one-place e b h =
+      case-bool (p e)
+      (λ t.
+      let u =
+      sum-change (λ z. 0) (λ z. one (p e && eqb (key e) (place z))) (index e) 32 (b t)
+      (λ z l ne. one-false (and-right-false (p e) (h t z l ∙ and-right-false (q e) (ne-eqb (index e) z (λ i. ne (sym i)))))) in
       omega (
         arith,
-        count-row n (λ e l. h e (omega arith)),
-        one-place (p n) (x n) (y n) j (h n (omega arith)),
-        sum-add (λ d. countTo (λ e. p e && eqb (32 * x e + y e) (32 * j + d)) n) (λ d. one (p n && eqb (32 * x n + y n) (32 * j + d))) 32,
+        u,
+        sum-zero (λ z. 0) 32 (λ z l. refl),
+        ap (λ c. one (p e && c)) (h t (index e) (b t) ∙ bool-same (λ r. and-left (q e) (eqb (index e) (index e)) r) (λ r. and-both r (eq-eqb (index e) (index e) refl))),
+      ))
+      (λ f.
+      sum-zero (λ z. one (p e && eqb (key e) (place z))) 32 (λ z l. one-false (and-left-false (eqb (key e) (place z)) f))
+      ∙ sym (one-false (and-left-false (q e) f)))
+
+  count-line : (n : ℕ) → ((e : ℕ) → e < n → p e ≡ true → index e < 32)
+      → ((e : ℕ) → e < n → p e ≡ true → (z : ℕ) → z < 32 → eqb (key e) (place z) ≡ q e && eqb (index e) z)
+      → sumTo (λ z. countTo (λ e. p e && eqb (key e) (place z)) n) 32 ≡ countTo (λ e. p e && q e) n
+  unfolding countTo
+  count-line zero b h = sum-zero (λ z. 0) 32 (λ z l. refl)
+  count-line (suc n) b h =
+      omega (
+        arith,
+        count-line n (λ e l. b e (omega arith)) (λ e l. h e (omega arith)),
+        one-place n (b n (omega arith)) (h n (omega arith)),
+        sum-add (λ z. countTo (λ e. p e && eqb (key e) (place z)) n) (λ z. one (p n && eqb (key n) (place z))) 32,
       )
 
 -- the table of jobs and destinations after n entries
 module _ (kind job destination table : List ℕ) (n : ℕ) (s : Counts kind 1 (λ e. 32 * at job e + at destination e) 1024 n table)
-    (below : (e : ℕ) → e < n → at kind e ≡ 1 → at destination e < 32) where
+    (inside : (e : ℕ) → e < n → at kind e ≡ 1 → (at job e < 32) × (at destination e < 32)) where
   pub row-is : (j : ℕ) → j < 32 → sumTo (λ d. at table (32 * j + d)) 32 ≡ tallyTo kind 1 (at job) n j
   unfolding tallyTo
   row-is j l =
       sum-eq (λ d. at table (32 * j + d)) (λ d. tallyTo kind 1 (λ e. 32 * at job e + at destination e) n (32 * j + d)) 32
       (λ d m. s .counts (32 * j + d) (omega arith))
-      ∙ sym (count-row (λ e. eqb (at kind e) 1) (at job) (at destination) j n (λ e m t. below e m (eqb-true (at kind e) 1 t)))
+      ∙ count-line (λ e. eqb (at kind e) 1) (λ e. eqb (at job e) j) (λ e. 32 * at job e + at destination e) (at destination) (λ d. 32 * j + d) n
+      (λ e m t. inside e m (eqb-true (at kind e) 1 t) .1)
+      (λ e m t d b. pair-test (at job e) (at destination e) j d (inside e m (eqb-true (at kind e) 1 t) .1) b)
+
+  pub column-is : (d : ℕ) → d < 32 → sumTo (λ j. at table (32 * j + d)) 32 ≡ tallyTo kind 1 (at destination) n d
+  unfolding tallyTo
+  column-is d l =
+      sum-eq (λ j. at table (32 * j + d)) (λ j. tallyTo kind 1 (λ e. 32 * at job e + at destination e) n (32 * j + d)) 32
+      (λ j m. s .counts (32 * j + d) (omega arith))
+      ∙ count-line (λ e. eqb (at kind e) 1) (λ e. eqb (at destination e) d) (λ e. 32 * at job e + at destination e) (at job) (λ j. 32 * j + d) n
+      (λ e m t. inside e m (eqb-true (at kind e) 1 t) .0)
+      (λ e m t j b. pair-test (at job e) (at destination e) j d (inside e m (eqb-true (at kind e) 1 t) .1) l ∙ and-swap (eqb (at job e) j) (eqb (at destination e) d))
 
   pub row-fits : (j : ℕ) → j < 32 → sumTo (λ d. at table (32 * j + d)) 32 ≤ n
   unfolding tallyTo
   row-fits j l = omega (arith, row-is j l, count-le-bound (λ e. eqb (at kind e) 1 && eqb (at job e) j) n)
+
+  pub column-fits : (d : ℕ) → d < 32 → sumTo (λ j. at table (32 * j + d)) 32 ≤ n
+  unfolding tallyTo
+  column-fits d l = omega (arith, column-is d l, count-le-bound (λ e. eqb (at kind e) 1 && eqb (at destination e) d) n)

@@ -40,6 +40,36 @@ fn row_sums(table: &[u16; 1024]) -> [u16; 32]
     sums
 }
 
+// Adds row j of the table to the sums.
+fn add_row(table: &[u16; 1024], j: usize, sums: &mut [u16; 32])
+    requires { ⌜ j < 32 ⌝ }
+    requires { ⌜ length (now sums) ≡ 32 ⌝ }
+    requires { ⌜ ((d : ℕ) → d < 32 → at (now sums) d + at (now table) (32 * j + d) ≤ 65535) ⌝ }
+    ensures size { λ _. ⌜ length (now (sums .exit)) ≡ 32 ⌝ }
+    ensures sums { λ _. ⌜ ((d : ℕ) → d < 32 → at (now (sums .exit)) d ≡ at (now (sums .entry)) d + at (now (table .entry)) (32 * j + d)) ⌝ }
+{
+    let mut d: usize = 0;
+    while d < 32 {
+        sums[d] = sums[d] + table[32 * j + d];
+        d += 1;
+    }
+}
+
+// The sum of each column.
+fn column_sums(table: &[u16; 1024]) -> [u16; 32]
+    requires { ⌜ ((d : ℕ) → d < 32 → sumTo (λ j. at (now table) (32 * j + d)) 32 ≤ 65535) ⌝ }
+    ensures size { λ r. ⌜ length r ≡ 32 ⌝ }
+    ensures sums { λ r. ⌜ ((d : ℕ) → d < 32 → at r d ≡ sumTo (λ j. at (now (table .entry)) (32 * j + d)) 32) ⌝ }
+{
+    let mut sums = [0u16; 32];
+    let mut j: usize = 0;
+    while j < 32 {
+        add_row(table, j, &mut sums);
+        j += 1;
+    }
+    sums
+}
+
 // One pass over the entries: whether each is free, or waiting or busy, of a present job whose order has its destination, on the destination's
 // transport; and the counts. The table of zeros becomes that of the waiting entries of each job to each destination: d of job j at 32 * j + d.
 pub fn count_entries<'a, 'b>(
@@ -72,7 +102,6 @@ pub fn count_entries<'a, 'b>(
     ensures pairs { λ r. ⌜ (r .good ≡ true → Paired (now (kind .entry)) (now (job .entry)) (now (destination .entry)) (now (pairs .exit))) ⌝ }
 {
     let mut busy = [0u16; 32];
-    let mut held = [0u16; 32];
     let mut to = [0u16; 32];
     let mut on = [0u16; 4];
     let mut e: usize = 0;
@@ -89,7 +118,7 @@ pub fn count_entries<'a, 'b>(
                 good: false,
                 waiting: [0u16; 32],
                 busy,
-                held,
+                held: [0u16; 32],
                 to,
                 on,
             };
@@ -99,7 +128,7 @@ pub fn count_entries<'a, 'b>(
                 good: false,
                 waiting: [0u16; 32],
                 busy,
-                held,
+                held: [0u16; 32],
                 to,
                 on,
             };
@@ -109,7 +138,7 @@ pub fn count_entries<'a, 'b>(
                 good: false,
                 waiting: [0u16; 32],
                 busy,
-                held,
+                held: [0u16; 32],
                 to,
                 on,
             };
@@ -119,7 +148,7 @@ pub fn count_entries<'a, 'b>(
                 good: false,
                 waiting: [0u16; 32],
                 busy,
-                held,
+                held: [0u16; 32],
                 to,
                 on,
             };
@@ -131,14 +160,13 @@ pub fn count_entries<'a, 'b>(
                 good: false,
                 waiting: [0u16; 32],
                 busy,
-                held,
+                held: [0u16; 32],
                 to,
                 on,
             };
         }
         if k == 1 {
             pairs[32 * j + d] += 1;
-            held[d] += 1;
             e += 1;
             continue;
         }
@@ -148,6 +176,7 @@ pub fn count_entries<'a, 'b>(
         e += 1;
     }
     let waiting = row_sums(pairs);
+    let held = column_sums(pairs);
     Tally {
         good: true,
         waiting,

@@ -1,22 +1,22 @@
 -- `soundness::entries::count_entries` meets its contract. Invariant: the entries passed are right, and the tables count them.
 use borrow.Author.Needs.{needs}
 use native.Mathlib.Omega.{arith}
-use Prim.Native.Nat.{_+_, _*_, _-_, _≤_}
+use Prim.Native.Nat.{_-_, _≤_}
 use mathlib.Core.Path.{_≡_, refl, sym, _∙_}
 use Rattle.laws.proofs.Choice.{true-not-false}
 use borrow.Author.Tests.{not-true, not-false}
 use Rattle.rules.specs.State.{at}
 use Rattle.soundness.specs.Columns.{columns}
-use Rattle.soundness.proofs.TallyLaws.{counts-within, Counted, counted-none, counted-free, counted-no-kind, counted-no-job, counted-no-destination, counted-no-mark}
-use Rattle.soundness.proofs.TallyLaws.{counted-elsewhere, counted-waiting, counted-busy, counted-fits, counted-done}
+use Rattle.soundness.proofs.TallyLaws.{counts-within, counts-room, Counted, counted-none, counted-free, counted-no-kind, counted-no-job, counted-no-destination, counted-no-mark}
+use Rattle.soundness.proofs.TallyLaws.{counted-elsewhere, counted-waiting, counted-busy, counted-row-fits, counted-column-fits, counted-done}
 use Rattle.soundness.proofs.entries.count_entries.Statement.{statement}
 use Rattle.soundness.proofs.entries.count_entries.Tie as tie
 
 abbrev Inv-loop : tie.InvT-loop
-Inv-loop kind job destination present transport home destinations marked pairs₀ busy₀ held₀ to₀ on₀ e₀ pairs busy held to on e = Counted (columns kind job destination present transport home destinations marked) e pairs busy held to on × (e ≤ 512)
+Inv-loop kind job destination present transport home destinations marked pairs₀ busy₀ to₀ on₀ e₀ pairs busy to on e = Counted (columns kind job destination present transport home destinations marked) e pairs busy to on × (e ≤ 512)
 
 abbrev μ-loop : tie.MeasureT-loop
-μ-loop kind job destination present transport home destinations marked pairs₀ busy₀ held₀ to₀ on₀ e₀ pairs busy held to on e = 512 - e
+μ-loop kind job destination present transport home destinations marked pairs₀ busy₀ to₀ on₀ e₀ pairs busy to on e = 512 - e
 
 loop-holds : tie.Need-loop-holds Inv-loop μ-loop
 loop-holds c = (counted-none _ _ (c .pre .1 .1 .1 .0) (c .pre .1 .1 .1 .1), omega arith)
@@ -31,7 +31,7 @@ loop-less : tie.Need-loop-less Inv-loop μ-loop
 loop-less c = omega arith
 
 loop-again : tie.Need-loop-again Inv-loop μ-loop
-loop-again c = (counted-free _ _ _ _ _ _ _ (c .before .before .before .loop .inv .0) (c .if1 .taken), omega arith)
+loop-again c = (counted-free _ _ _ _ _ _ (c .before .before .before .loop .inv .0) (c .if1 .taken), omega arith)
 
 element-copy-out-wide : tie.Need-element-copy-out-wide Inv-loop μ-loop
 element-copy-out-wide c = omega arith
@@ -46,13 +46,13 @@ wide-requires-2 : tie.Need-wide-requires-2 Inv-loop μ-loop
 wide-requires-2 c κs = search needs
 
 returns : tie.Need-returns Inv-loop μ-loop
-returns c = (counted-no-kind _ _ _ _ _ _ _ (c .before .before .before .before .before .before .before .before .loop .inv .0) (c .before .before .before .before .before .if1 .left) (c .before .before .before .wide .result) (c .before .wide2 .result) (c .before .before .before .wide .ensures .0) (c .before .wide2 .ensures .0) (c .if2 .taken) (omega arith) _ refl, λ g. true-not-false g refl)
+returns c = (counted-no-kind _ _ _ _ _ _ (c .before .before .before .before .before .before .before .before .loop .inv .0) (c .before .before .before .before .before .if1 .left) (c .before .before .before .wide .result) (c .before .wide2 .result) (c .before .before .before .wide .ensures .0) (c .before .wide2 .ensures .0) (c .if2 .taken) (omega arith) _ refl, λ g. true-not-false g refl)
 
 returns-2 : tie.Need-returns-2 Inv-loop μ-loop
-returns-2 c = (counted-no-job _ _ _ _ _ _ _ (c .before .before .before .before .before .before .before .before .before .loop .inv .0) (c .before .before .before .before .before .before .if1 .left) (c .before .before .before .before .wide .result) (c .before .before .wide2 .result) (c .before .before .before .before .wide .ensures .0) (c .before .before .wide2 .ensures .0) (c .before .before .before .before .before .before .before .before .before .before .pre .1 .0) (c .if3 .taken) (omega arith) _ refl, λ g. true-not-false g refl)
+returns-2 c = (counted-no-job _ _ _ _ _ _ (c .before .before .before .before .before .before .before .before .before .loop .inv .0) (c .before .before .before .before .before .before .if1 .left) (c .before .before .before .before .wide .result) (c .before .before .wide2 .result) (c .before .before .before .before .wide .ensures .0) (c .before .before .wide2 .ensures .0) (c .before .before .before .before .before .before .before .before .before .before .pre .1 .0) (c .if3 .taken) (omega arith) _ refl, λ g. true-not-false g refl)
 
 returns-3 : tie.Need-returns-3 Inv-loop μ-loop
-returns-3 c = (counted-no-destination _ _ _ _ _ _ _ (c .before .before .before .before .before .before .before .before .before .before .loop .inv .0) (c .before .before .before .before .before .before .before .if1 .left) (c .before .before .before .before .before .wide .result) (c .before .before .before .wide2 .result) (c .before .before .before .before .before .wide .ensures .0) (c .before .before .before .wide2 .ensures .0) (c .if4 .taken) (omega arith) _ refl, λ g. true-not-false g refl)
+returns-3 c = (counted-no-destination _ _ _ _ _ _ (c .before .before .before .before .before .before .before .before .before .before .loop .inv .0) (c .before .before .before .before .before .before .before .if1 .left) (c .before .before .before .before .before .wide .result) (c .before .before .before .wide2 .result) (c .before .before .before .before .before .wide .ensures .0) (c .before .before .before .wide2 .ensures .0) (c .if4 .taken) (omega arith) _ refl, λ g. true-not-false g refl)
 
 element-copy-out-if5 : tie.Need-element-copy-out-if5 Inv-loop μ-loop
 element-copy-out-if5 c = omega arith
@@ -67,7 +67,7 @@ element-copy-out-if5-2 : tie.Need-element-copy-out-if5-2 Inv-loop μ-loop
 element-copy-out-if5-2 c = omega arith
 
 returns-4 : tie.Need-returns-4 Inv-loop μ-loop
-returns-4 c = (counted-no-mark _ _ _ _ _ _ _ (c .before .before .before .before .before .before .before .before .before .before .before .before .before .loop .inv .0) (c .before .before .before .before .before .before .before .before .before .before .if1 .left) (c .before .before .before .before .before .before .before .before .wide .result) (c .before .before .before .before .before .before .wide2 .result) (c .before .before .before .before .before .before .before .before .wide .ensures .0) (c .before .before .before .before .before .before .wide2 .ensures .0) (not-true _ (c .if5 .taken)) (omega arith) _ refl, λ g. true-not-false g refl)
+returns-4 c = (counted-no-mark _ _ _ _ _ _ (c .before .before .before .before .before .before .before .before .before .before .before .before .before .loop .inv .0) (c .before .before .before .before .before .before .before .before .before .before .if1 .left) (c .before .before .before .before .before .before .before .before .wide .result) (c .before .before .before .before .before .before .wide2 .result) (c .before .before .before .before .before .before .before .before .wide .ensures .0) (c .before .before .before .before .before .before .wide2 .ensures .0) (not-true _ (c .if5 .taken)) (omega arith) _ refl, λ g. true-not-false g refl)
 
 mul-h : tie.Need-mul-h Inv-loop μ-loop
 mul-h c = omega arith
@@ -82,7 +82,7 @@ wide-requires-3 : tie.Need-wide-requires-3 Inv-loop μ-loop
 wide-requires-3 c κs = search needs
 
 returns-5 : tie.Need-returns-5 Inv-loop μ-loop
-returns-5 c = (counted-elsewhere _ _ _ _ _ _ _ (c .before .before .before .before .before .before .before .before .before .before .before .before .before .before .before .before .before .loop .inv .0) (c .before .before .before .before .before .before .before .before .before .before .before .before .before .before .if1 .left) (c .before .before .before .before .before .before .before .before .before .before .before .before .wide .result) (c .before .before .before .before .before .before .before .before .before .before .wide2 .result) (c .before .before .before .before .before .before .before .before .before .before .before .before .wide .ensures .0) (c .before .before .before .before .before .before .before .before .before .before .wide2 .ensures .0) (λ q. c .if6 .taken (c .before .wide3 .ensures .0 ∙ q)) (omega arith) _ refl, λ g. true-not-false g refl)
+returns-5 c = (counted-elsewhere _ _ _ _ _ _ (c .before .before .before .before .before .before .before .before .before .before .before .before .before .before .before .before .before .loop .inv .0) (c .before .before .before .before .before .before .before .before .before .before .before .before .before .before .if1 .left) (c .before .before .before .before .before .before .before .before .before .before .before .before .wide .result) (c .before .before .before .before .before .before .before .before .before .before .wide2 .result) (c .before .before .before .before .before .before .before .before .before .before .before .before .wide .ensures .0) (c .before .before .before .before .before .before .before .before .before .before .wide2 .ensures .0) (λ q. c .if6 .taken (c .before .wide3 .ensures .0 ∙ q)) (omega arith) _ refl, λ g. true-not-false g refl)
 
 mul-pairs : tie.Need-mul-pairs Inv-loop μ-loop
 mul-pairs c = omega arith
@@ -97,22 +97,10 @@ element-copy-out-pairs : tie.Need-element-copy-out-pairs Inv-loop μ-loop
 element-copy-out-pairs c = omega arith
 
 add-pairs-2 : tie.Need-add-pairs-2 Inv-loop μ-loop
-add-pairs-2 c = omega (arith, counts-within _ _ _ _ _ _ (c .before .before .before .before .before .before .before .before .before .before .before .before .before .before .before .before .before .before .before .loop .inv .0 .pairs) (32 * c .before .before .before .before .before .before .before .before .before .before .before .before .before .before .wide .result + c .before .before .before .before .before .before .before .before .before .before .before .before .wide2 .result) (omega arith))
+add-pairs-2 c = counts-room _ _ _ _ _ _ (c .before .before .before .before .before .before .before .before .before .before .before .before .before .before .before .before .before .before .before .loop .inv .0 .pairs) _ (omega arith) (omega arith)
 
 element-write-pairs : tie.Need-element-write-pairs Inv-loop μ-loop
 element-write-pairs c = omega arith
-
-mul-held : tie.Need-mul-held Inv-loop μ-loop
-mul-held c = omega arith
-
-array-read-held : tie.Need-array-read-held Inv-loop μ-loop
-array-read-held c = omega arith
-
-add-held : tie.Need-add-held Inv-loop μ-loop
-add-held c = omega (arith, counts-within _ _ _ _ _ _ (c .before .before .before .before .before .before .before .before .before .before .before .before .before .before .before .before .before .before .before .loop .inv .0 .held) (c .before .before .before .before .before .before .before .before .before .before .before .before .wide2 .result) (omega arith))
-
-array-write-held : tie.Need-array-write-held Inv-loop μ-loop
-array-write-held c = omega arith
 
 add-e-2 : tie.Need-add-e-2 Inv-loop μ-loop
 add-e-2 c = omega arith
@@ -121,7 +109,7 @@ loop-less-2 : tie.Need-loop-less-2 Inv-loop μ-loop
 loop-less-2 c = omega arith
 
 loop-again-2 : tie.Need-loop-again-2 Inv-loop μ-loop
-loop-again-2 c = (counted-waiting _ _ _ _ _ _ _ (c .before .before .before .before .before .before .before .before .before .before .before .before .before .before .before .before .before .before .before .loop .inv .0) (c .before .before .before .before .before .before .before .before .before .before .before .before .before .before .before .before .if1 .left) (c .before .before .before .before .before .before .before .before .before .before .before .before .before .before .wide .result) (c .before .before .before .before .before .before .before .before .before .before .before .before .wide2 .result) (c .before .before .before .before .before .before .before .before .before .before .before .before .before .before .wide .ensures .0) (c .before .before .before .before .before .before .before .before .before .before .before .before .wide2 .ensures .0) (not-false _ (c .before .before .before .before .before .before .if5 .left)) (c .before .before .before .before .before .before .before .before .before .before .if3 .left) (c .before .before .before .before .before .before .before .before .before .if4 .left) (c .before .before .before .before .before .before .before .before .before .before .before .before .before .before .before .before .before .before .before .before .pre .0) (sym (c .before .before .before .wide3 .ensures .0) ∙ c .before .before .if6 .left) (c .before .if7 .taken), omega arith)
+loop-again-2 c = (counted-waiting _ _ _ _ _ _ (c .before .before .before .before .before .before .before .before .before .before .before .before .before .before .before .before .before .before .before .loop .inv .0) (c .before .before .before .before .before .before .before .before .before .before .before .before .before .before .before .before .if1 .left) (c .before .before .before .before .before .before .before .before .before .before .before .before .before .before .wide .result) (c .before .before .before .before .before .before .before .before .before .before .before .before .wide2 .result) (c .before .before .before .before .before .before .before .before .before .before .before .before .before .before .wide .ensures .0) (c .before .before .before .before .before .before .before .before .before .before .before .before .wide2 .ensures .0) (not-false _ (c .before .before .before .before .before .before .if5 .left)) (c .before .before .before .before .before .before .before .before .before .before .if3 .left) (c .before .before .before .before .before .before .before .before .before .if4 .left) (c .before .before .before .before .before .before .before .before .before .before .before .before .before .before .before .before .before .before .before .before .pre .0) (sym (c .before .before .before .wide3 .ensures .0) ∙ c .before .before .if6 .left) (c .before .if7 .taken), omega arith)
 
 mul-busy : tie.Need-mul-busy Inv-loop μ-loop
 mul-busy c = omega arith
@@ -166,13 +154,16 @@ loop-less-3 : tie.Need-loop-less-3 Inv-loop μ-loop
 loop-less-3 c = omega arith
 
 loop-again-3 : tie.Need-loop-again-3 Inv-loop μ-loop
-loop-again-3 c = (counted-busy _ _ _ _ _ _ _ (c .before .before .before .before .before .before .before .before .before .before .before .before .before .before .before .before .before .before .loop .inv .0) (c .before .before .before .before .before .before .before .before .before .before .before .before .before .before .before .if1 .left) (c .before .before .before .before .before .before .before .before .before .before .before .before .before .wide .result) (c .before .before .before .before .before .before .before .before .before .before .before .wide2 .result) (c .before .before .before .before .before .before .before .before .before .before .before .before .before .wide .ensures .0) (c .before .before .before .before .before .before .before .before .before .before .before .wide2 .ensures .0) (not-false _ (c .before .before .before .before .before .if5 .left)) (c .before .before .before .before .before .before .before .before .before .if3 .left) (c .before .before .before .before .before .before .before .before .if4 .left) (c .before .before .before .before .before .before .before .before .before .before .before .before .before .before .before .before .before .before .before .pre .0) (sym (c .before .before .wide3 .ensures .0) ∙ c .before .if6 .left) (omega arith) (c .before .before .before .before .before .before .before .before .before .before .before .before .before .before .before .before .before .before .before .pre .1 .1 .0 (c .before .before .before .before .before .before .before .before .before .before .before .wide2 .result) (c .before .before .before .before .before .before .before .before .if4 .left)), omega arith)
+loop-again-3 c = (counted-busy _ _ _ _ _ _ (c .before .before .before .before .before .before .before .before .before .before .before .before .before .before .before .before .before .before .loop .inv .0) (c .before .before .before .before .before .before .before .before .before .before .before .before .before .before .before .if1 .left) (c .before .before .before .before .before .before .before .before .before .before .before .before .before .wide .result) (c .before .before .before .before .before .before .before .before .before .before .before .wide2 .result) (c .before .before .before .before .before .before .before .before .before .before .before .before .before .wide .ensures .0) (c .before .before .before .before .before .before .before .before .before .before .before .wide2 .ensures .0) (not-false _ (c .before .before .before .before .before .if5 .left)) (c .before .before .before .before .before .before .before .before .before .if3 .left) (c .before .before .before .before .before .before .before .before .if4 .left) (c .before .before .before .before .before .before .before .before .before .before .before .before .before .before .before .before .before .before .before .pre .0) (sym (c .before .before .wide3 .ensures .0) ∙ c .before .if6 .left) (omega arith) (c .before .before .before .before .before .before .before .before .before .before .before .before .before .before .before .before .before .before .before .pre .1 .1 .0 (c .before .before .before .before .before .before .before .before .before .before .before .wide2 .result) (c .before .before .before .before .before .before .before .before .if4 .left)), omega arith)
 
 row-sums-requires : tie.Need-row-sums-requires Inv-loop μ-loop
-row-sums-requires c κs = λ j l. (let f = counted-fits _ _ _ _ _ _ _ (c .before .before .loop .inv .0) (c .before .before .before .pre .0) j l in omega (arith, f))
+row-sums-requires c κs = λ j l. (let f = counted-row-fits _ _ _ _ _ _ (c .before .before .loop .inv .0) j l in omega (arith, f))
+
+column-sums-requires : tie.Need-column-sums-requires Inv-loop μ-loop
+column-sums-requires c κs = λ d l. (let f = counted-column-fits _ _ _ _ _ _ (c .before .before .before .before .loop .inv .0) d l in omega (arith, f))
 
 returns-6 : tie.Need-returns-6 Inv-loop μ-loop
-returns-6 c = let e : c .before .before .before .loop .e ≡ 512 = omega arith in let s = rw e at (c .before .before .before .loop .inv .0) in (counted-done _ _ refl _ s (c .before .before .before .before .pre .0) (c .row-sums .ensures .0) (c .row-sums .ensures .1), λ g. s .pairs)
+returns-6 c = let e : c .before .before .before .before .before .loop .e ≡ 512 = omega arith in let s = rw e at (c .before .before .before .before .before .loop .inv .0) in (counted-done _ _ refl _ s (c .before .before .row-sums .ensures .0) (c .before .before .row-sums .ensures .1) (c .column-sums .ensures .0) (c .column-sums .ensures .1), λ g. s .pairs)
 
 pub count-entries-spec : {M : Type 1} → statement M
 count-entries-spec =
@@ -208,10 +199,6 @@ count-entries-spec =
     element-copy-out-pairs
     add-pairs-2
     element-write-pairs
-    mul-held
-    array-read-held
-    add-held
-    array-write-held
     add-e-2
     loop-less-2
     loop-again-2
@@ -231,4 +218,5 @@ count-entries-spec =
     loop-less-3
     loop-again-3
     row-sums-requires
+    column-sums-requires
     returns-6)
