@@ -182,7 +182,8 @@ pub fn report(
     ensures { λ r. ⌜ reportGave r (list .exit .now) ≡ reportReply s now entry ticket outcome (list .entry .now) ⌝ }
 {
     let mut next = s;
-    if !soundness::sound(next) {
+    let mut pairs = [0u16; 1024];
+    if !soundness::sound_with(next, &mut pairs) {
         return ReportReply {
             answer: ReportAnswer::Refused(1),
             state: s,

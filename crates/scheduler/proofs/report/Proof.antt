@@ -3,7 +3,7 @@ use Prim.Native.Nat.{ℕ, _≤_}
 use mathlib.Core.Path.{_≡_, refl, sym, subst, ap, _∙_}
 use mathlib.Core.Bool.{Bool, false}
 use native.Mathlib.Omega.{arith}
-use lib.ListN.{length, set, getD}
+use lib.ListN.{length, set, getD, getD-replicate}
 use borrow.Author.Needs.{needs, length-unmapped}
 use borrow.Author.Tests.{not-true, not-false}
 use Rattle.laws.specs.Sequence.{keep}
@@ -52,26 +52,26 @@ shape c =
     }
 
 -- the refusals have passed
-accepted : (c : tie.Else2) → reportRefusal (c .before .before .before .before .before .args .s) (c .before .before .before .before .before .args .now) (c .before .before .before .before .before .args .entry) (c .before .before .before .before .before .args .ticket) (c .before .before .before .before .before .args .list .now) ≡ 0
-accepted c = sym (c .before .refusal .ensures (c .before .before .before .before .before .args .list .now) refl) ∙ c .if2 .left
+accepted : (c : tie.Else2) → reportRefusal (c .before .before .before .before .before .before .args .s) (c .before .before .before .before .before .before .args .now) (c .before .before .before .before .before .before .args .entry) (c .before .before .before .before .before .before .args .ticket) (c .before .before .before .before .before .before .args .list .now) ≡ 0
+accepted c = sym (c .before .refusal .ensures (c .before .before .before .before .before .before .args .list .now) refl) ∙ c .if2 .left
 
-can : (c : tie.Else2) → CanReport (c .before .before .before .before .before .args .s) (c .before .before .before .before .before .args .now) (c .before .before .before .before .before .args .entry) (length (c .before .before .before .before .before .args .list .now))
-can c = report-can (c .before .before .before .before .before .args .s) (c .before .before .before .before .before .args .now) (c .before .before .before .before .before .args .entry) (c .before .before .before .before .before .args .ticket) (c .before .before .before .before .before .args .outcome) (c .before .before .before .before .before .args .list .now) (accepted c)
+can : (c : tie.Else2) → CanReport (c .before .before .before .before .before .before .args .s) (c .before .before .before .before .before .before .args .now) (c .before .before .before .before .before .before .args .entry) (length (c .before .before .before .before .before .before .args .list .now))
+can c = report-can (c .before .before .before .before .before .before .args .s) (c .before .before .before .before .before .before .args .now) (c .before .before .before .before .before .before .args .entry) (c .before .before .before .before .before .before .args .ticket) (c .before .before .before .before .before .before .args .outcome) (c .before .before .before .before .before .before .args .list .now) (accepted c)
 
-asks : (c : tie.Else2) → ReportAsks (c .before .before .before .before .before .args .s) (c .before .before .before .before .before .args .now) (c .before .before .before .before .before .args .entry) (length (c .before .before .before .before .before .args .list .now))
-asks c = report-asks (c .before .before .before .before .before .args .s) (c .before .before .before .before .before .args .now) (c .before .before .before .before .before .args .entry) (length (c .before .before .before .before .before .args .list .now)) (shape (c .before .before .before .before .before)) (can c)
+asks : (c : tie.Else2) → ReportAsks (c .before .before .before .before .before .before .args .s) (c .before .before .before .before .before .before .args .now) (c .before .before .before .before .before .before .args .entry) (length (c .before .before .before .before .before .before .args .list .now))
+asks c = report-asks (c .before .before .before .before .before .before .args .s) (c .before .before .before .before .before .before .args .now) (c .before .before .before .before .before .before .args .entry) (length (c .before .before .before .before .before .before .args .list .now)) (shape (c .before .before .before .before .before .before)) (can c)
 
-sound-requires : tie.Need-sound-requires
-sound-requires c κs = search needs
+sound-with-requires : tie.Need-sound-with-requires
+sound-with-requires c κs = (refl, λ k l. getD-replicate 1024 k 0 0 l)
 
 returns : tie.Need-returns
-returns c = report-unsound (c .before .before .before .args .s) (c .before .before .before .args .now) (c .before .before .before .args .entry) (c .before .before .before .args .ticket) (c .before .before .before .args .outcome) (c .before .before .before .args .list .now) (sym (c .before .sound .ensures) ∙ not-true _ (c .if1 .taken))
+returns c = report-unsound (c .before .before .before .before .args .s) (c .before .before .before .before .args .now) (c .before .before .before .before .args .entry) (c .before .before .before .before .args .ticket) (c .before .before .before .before .args .outcome) (c .before .before .before .before .args .list .now) (sym (c .before .sound-with .ensures .0) ∙ not-true _ (c .if1 .taken))
 
 refusal-requires : tie.Need-refusal-requires
-refusal-requires c κs = (sym (c .before .sound .ensures) ∙ not-false _ (c .if1 .left))
+refusal-requires c κs = (sym (c .before .sound-with .ensures .0) ∙ not-false _ (c .if1 .left))
 
 returns-2 : tie.Need-returns-2
-returns-2 c = report-refused (c .before .before .before .before .before .args .s) (c .before .before .before .before .before .args .now) (c .before .before .before .before .before .args .entry) (c .before .before .before .before .before .args .ticket) (c .before .before .before .before .before .args .outcome) (c .before .before .before .before .before .args .list .now) (c .before .refusal .result) (c .before .refusal .ensures (c .before .before .before .before .before .args .list .now) refl) (c .if2 .taken)
+returns-2 c = report-refused (c .before .before .before .before .before .before .args .s) (c .before .before .before .before .before .before .args .now) (c .before .before .before .before .before .before .args .entry) (c .before .before .before .before .before .before .args .ticket) (c .before .before .before .before .before .before .args .outcome) (c .before .before .before .before .before .before .args .list .now) (c .before .refusal .result) (c .before .refusal .ensures (c .before .before .before .before .before .before .args .list .now) refl) (c .if2 .taken)
 
 cast-next : tie.Need-cast-next
 cast-next c = record { fits = omega (arith, (can c) .early) }
@@ -113,7 +113,7 @@ cast-many : tie.Need-cast-many
 cast-many c = omega (arith, asks (c .before .before .before .before .before .before .before .before .before .before) .few)
 
 step-requires : tie.Need-step-requires
-step-requires c κs = step-asks (c .before .before .before .before .before .before .before .before .before .before .before .before .before .before .before .args .s) (c .before .before .before .before .before .before .before .before .before .before .before .before .before .before .before .args .now) (c .before .before .before .before .before .before .before .before .before .before .before .before .before .before .before .args .entry) (length (c .before .before .before .before .before .before .before .before .before .before .before .before .before .before .before .args .list .now)) (shape (c .before .before .before .before .before .before .before .before .before .before .before .before .before .before .before)) (can (c .before .before .before .before .before .before .before .before .before .before)) (c .before .before .before .before .before .before .before .wake .ensures)
+step-requires c κs = step-asks (c .before .before .before .before .before .before .before .before .before .before .before .before .before .before .before .before .args .s) (c .before .before .before .before .before .before .before .before .before .before .before .before .before .before .before .before .args .now) (c .before .before .before .before .before .before .before .before .before .before .before .before .before .before .before .before .args .entry) (length (c .before .before .before .before .before .before .before .before .before .before .before .before .before .before .before .before .args .list .now)) (shape (c .before .before .before .before .before .before .before .before .before .before .before .before .before .before .before .before)) (can (c .before .before .before .before .before .before .before .before .before .before)) (c .before .before .before .before .before .before .before .wake .ensures)
 
 mul-ds : tie.Need-mul-ds
 mul-ds c = omega (arith, asks (c .before .before .before .before .before .before .before .before .before .before .before) .destination)
@@ -152,7 +152,7 @@ is-live-requires-2 : tie.Need-is-live-requires-2
 is-live-requires-2 c κs = search needs
 
 put-off-requires : tie.Need-put-off-requires
-put-off-requires c κs = put-off-asks (c .before .before .before .before .before .before .before .before .before .before .before .before .before .before .before .before .before .before .before .before .before .before .before .before .before .before .before .args .s) (c .before .before .before .before .before .before .before .before .before .before .before .before .before .before .before .before .before .before .before .before .before .before .before .before .before .before .before .args .now) (c .before .before .before .before .before .before .before .before .before .before .before .before .before .before .before .before .before .before .before .before .before .before .before .before .before .before .before .args .entry) (length (c .before .before .before .before .before .before .before .before .before .before .before .before .before .before .before .before .before .before .before .before .before .before .before .before .before .before .before .args .list .now)) (shape (c .before .before .before .before .before .before .before .before .before .before .before .before .before .before .before .before .before .before .before .before .before .before .before .before .before .before .before)) (can (c .before .before .before .before .before .before .before .before .before .before .before .before .before .before .before .before .before .before .before .before .before .before)) (c .before .before .before .before .before .before .before .before .before .before .before .before .before .before .before .before .before .before .before .before .before .before .before .before .before .before .before .args .list .now) refl
+put-off-requires c κs = put-off-asks (c .before .before .before .before .before .before .before .before .before .before .before .before .before .before .before .before .before .before .before .before .before .before .before .before .before .before .before .before .args .s) (c .before .before .before .before .before .before .before .before .before .before .before .before .before .before .before .before .before .before .before .before .before .before .before .before .before .before .before .before .args .now) (c .before .before .before .before .before .before .before .before .before .before .before .before .before .before .before .before .before .before .before .before .before .before .before .before .before .before .before .before .args .entry) (length (c .before .before .before .before .before .before .before .before .before .before .before .before .before .before .before .before .before .before .before .before .before .before .before .before .before .before .before .before .args .list .now)) (shape (c .before .before .before .before .before .before .before .before .before .before .before .before .before .before .before .before .before .before .before .before .before .before .before .before .before .before .before .before)) (can (c .before .before .before .before .before .before .before .before .before .before .before .before .before .before .before .before .before .before .before .before .before .before)) (c .before .before .before .before .before .before .before .before .before .before .before .before .before .before .before .before .before .before .before .before .before .before .before .before .before .before .before .before .args .list .now) refl
 
 free-requires : tie.Need-free-requires
 free-requires c κs = (can (c .before .before .before .before .before .before .before .before .before .before .before .before .before .before .before .before .before .before .before .before .before .before .before .before .before .before)) .inside
@@ -161,7 +161,7 @@ staying-requires : tie.Need-staying-requires
 staying-requires c κs = search needs
 
 adopt-requires : tie.Need-adopt-requires
-adopt-requires c κs = adopt-asks (c .before .before .before .before .before .before .before .before .before .before .before .before .before .before .before .before .before .before .before .before .before .before .before .before .before .before .before .before .before .before .before .before .before .before .before .before .before .before .before .before .before .args .s) (c .before .before .before .before .before .before .before .before .before .before .before .before .before .before .before .before .before .before .before .before .before .before .before .before .before .before .before .before .before .before .before .before .before .before .before .before .before .before .before .before .before .args .now) (c .before .before .before .before .before .before .before .before .before .before .before .before .before .before .before .before .before .before .before .before .before .before .before .before .before .before .before .before .before .before .before .before .before .before .before .before .before .before .before .before .before .args .entry) (length (c .before .before .before .before .before .before .before .before .before .before .before .before .before .before .before .before .before .before .before .before .before .before .before .before .before .before .before .before .before .before .before .before .before .before .before .before .before .before .before .before .before .args .list .now)) (shape (c .before .before .before .before .before .before .before .before .before .before .before .before .before .before .before .before .before .before .before .before .before .before .before .before .before .before .before .before .before .before .before .before .before .before .before .before .before .before .before .before .before)) (can (c .before .before .before .before .before .before .before .before .before .before .before .before .before .before .before .before .before .before .before .before .before .before .before .before .before .before .before .before .before .before .before .before .before .before .before .before)) (c .before .before .before .before .before .before .before .before .before .free .last .0) (c .before .before .staying .ensures)
+adopt-requires c κs = adopt-asks (c .before .before .before .before .before .before .before .before .before .before .before .before .before .before .before .before .before .before .before .before .before .before .before .before .before .before .before .before .before .before .before .before .before .before .before .before .before .before .before .before .before .before .args .s) (c .before .before .before .before .before .before .before .before .before .before .before .before .before .before .before .before .before .before .before .before .before .before .before .before .before .before .before .before .before .before .before .before .before .before .before .before .before .before .before .before .before .before .args .now) (c .before .before .before .before .before .before .before .before .before .before .before .before .before .before .before .before .before .before .before .before .before .before .before .before .before .before .before .before .before .before .before .before .before .before .before .before .before .before .before .before .before .before .args .entry) (length (c .before .before .before .before .before .before .before .before .before .before .before .before .before .before .before .before .before .before .before .before .before .before .before .before .before .before .before .before .before .before .before .before .before .before .before .before .before .before .before .before .before .before .args .list .now)) (shape (c .before .before .before .before .before .before .before .before .before .before .before .before .before .before .before .before .before .before .before .before .before .before .before .before .before .before .before .before .before .before .before .before .before .before .before .before .before .before .before .before .before .before)) (can (c .before .before .before .before .before .before .before .before .before .before .before .before .before .before .before .before .before .before .before .before .before .before .before .before .before .before .before .before .before .before .before .before .before .before .before .before)) (c .before .before .before .before .before .before .before .before .before .free .last .0) (c .before .before .staying .ensures)
 
 queue-of-requires : tie.Need-queue-of-requires
 queue-of-requires c κs = asks (c .before .before .before .before .before .before .before .before .before .before .before .before .before .before .before .before .before .before .before .before .before .before .before .before .before .before .before .before .before .before .before .before .before .before .before .before .before .before) .transport
@@ -182,8 +182,8 @@ same-length : tie.Need-same-length
 same-length c = search needs
 
 returns-3 : tie.Need-returns-3
-returns-3 c = report-made (c .before .before .before .before .before .before .before .before .before .before .before .before .before .before .before .before .before .before .before .before .before .before .before .before .before .before .before .before .before .before .before .before .before .before .before .before .before .before .before .before .before .before .before .before .before .before .before .before .before .args .s) (c .before .before .before .before .before .before .before .before .before .before .before .before .before .before .before .before .before .before .before .before .before .before .before .before .before .before .before .before .before .before .before .before .before .before .before .before .before .before .before .before .before .before .before .before .before .before .before .before .before .args .now) (c .before .before .before .before .before .before .before .before .before .before .before .before .before .before .before .before .before .before .before .before .before .before .before .before .before .before .before .before .before .before .before .before .before .before .before .before .before .before .before .before .before .before .before .before .before .before .before .before .before .args .entry) (c .before .before .before .before .before .before .before .before .before .before .before .before .before .before .before .before .before .before .before .before .before .before .before .before .before .before .before .before .before .before .before .before .before .before .before .before .before .before .before .before .before .before .before .before .before .before .before .before .before .args .ticket) (c .before .before .before .before .before .before .before .before .before .before .before .before .before .before .before .before .before .before .before .before .before .before .before .before .before .before .before .before .before .before .before .before .before .before .before .before .before .before .before .before .before .before .before .before .before .before .before .before .before .args .outcome) (c .before .before .before .before .before .before .before .before .before .before .before .before .before .before .before .before .before .before .before .before .before .before .before .before .before .before .before .before .before .before .before .before .before .before .before .before .before .before .before .before .before .before .before .before .before .before .before .before .before .args .list .now) _ (accepted (c .before .before .before .before .before .before .before .before .before .before .before .before .before .before .before .before .before .before .before .before .before .before .before .before .before .before .before .before .before .before .before .before .before .before .before .before .before .before .before .before .before .before .before .before))
-    (report-is (c .before .before .before .before .before .before .before .before .before .before .before .before .before .before .before .before .before .before .before .before .before .before .before .before .before .before .before .before .before .before .before .before .before .before .before .before .before .before .before .before .before .before .before .before .before .before .before .before .before .args .s) (c .before .before .before .before .before .before .before .before .before .before .before .before .before .before .before .before .before .before .before .before .before .before .before .before .before .before .before .before .before .before .before .before .before .before .before .before .before .before .before .before .before .before .before .before .before .before .before .before .before .args .now) (c .before .before .before .before .before .before .before .before .before .before .before .before .before .before .before .before .before .before .before .before .before .before .before .before .before .before .before .before .before .before .before .before .before .before .before .before .before .before .before .before .before .before .before .before .before .before .before .before .before .args .entry) (c .before .before .before .before .before .before .before .before .before .before .before .before .before .before .before .before .before .before .before .before .before .before .before .before .before .before .before .before .before .before .before .before .before .before .before .before .before .before .before .before .before .before .before .before .before .before .before .before .before .args .outcome) (shape (c .before .before .before .before .before .before .before .before .before .before .before .before .before .before .before .before .before .before .before .before .before .before .before .before .before .before .before .before .before .before .before .before .before .before .before .before .before .before .before .before .before .before .before .before .before .before .before .before .before)) (c .before .before .before .before .before .before .before .before .before .before .before .before .before .before .before .before .before .before .before .before .before .before .before .before .before .before .before .before .before .before .before .before .before .before .before .before .before .before .before .before .before .wake .ensures) (c .before .before .before .before .before .before .before .before .before .before .before .before .before .before .before .before .before .before .before .before .before .before .before .before .before .before .before .before .before .before .before .before .before .step .ensures) (c .before .before .before .before .before .before .before .before .before .before .before .before .before .before .before .before .before .before .before .before .before .before .before .before .before .before .before .before .before .before .is-live .ensures) (c .before .before .before .before .before .before .before .before .before .before .before .before .before .before .before .before .before .before .before .before .before .before .before .before .before .before .before .before .before .is-live2 .ensures) (c .before .before .before .before .before .before .before .before .before .before .before .before .before .before .before .before .before .before .before .before .before .put-off .ensures)
+returns-3 c = report-made (c .before .before .before .before .before .before .before .before .before .before .before .before .before .before .before .before .before .before .before .before .before .before .before .before .before .before .before .before .before .before .before .before .before .before .before .before .before .before .before .before .before .before .before .before .before .before .before .before .before .before .args .s) (c .before .before .before .before .before .before .before .before .before .before .before .before .before .before .before .before .before .before .before .before .before .before .before .before .before .before .before .before .before .before .before .before .before .before .before .before .before .before .before .before .before .before .before .before .before .before .before .before .before .before .args .now) (c .before .before .before .before .before .before .before .before .before .before .before .before .before .before .before .before .before .before .before .before .before .before .before .before .before .before .before .before .before .before .before .before .before .before .before .before .before .before .before .before .before .before .before .before .before .before .before .before .before .before .args .entry) (c .before .before .before .before .before .before .before .before .before .before .before .before .before .before .before .before .before .before .before .before .before .before .before .before .before .before .before .before .before .before .before .before .before .before .before .before .before .before .before .before .before .before .before .before .before .before .before .before .before .before .args .ticket) (c .before .before .before .before .before .before .before .before .before .before .before .before .before .before .before .before .before .before .before .before .before .before .before .before .before .before .before .before .before .before .before .before .before .before .before .before .before .before .before .before .before .before .before .before .before .before .before .before .before .before .args .outcome) (c .before .before .before .before .before .before .before .before .before .before .before .before .before .before .before .before .before .before .before .before .before .before .before .before .before .before .before .before .before .before .before .before .before .before .before .before .before .before .before .before .before .before .before .before .before .before .before .before .before .before .args .list .now) _ (accepted (c .before .before .before .before .before .before .before .before .before .before .before .before .before .before .before .before .before .before .before .before .before .before .before .before .before .before .before .before .before .before .before .before .before .before .before .before .before .before .before .before .before .before .before .before))
+    (report-is (c .before .before .before .before .before .before .before .before .before .before .before .before .before .before .before .before .before .before .before .before .before .before .before .before .before .before .before .before .before .before .before .before .before .before .before .before .before .before .before .before .before .before .before .before .before .before .before .before .before .before .args .s) (c .before .before .before .before .before .before .before .before .before .before .before .before .before .before .before .before .before .before .before .before .before .before .before .before .before .before .before .before .before .before .before .before .before .before .before .before .before .before .before .before .before .before .before .before .before .before .before .before .before .before .args .now) (c .before .before .before .before .before .before .before .before .before .before .before .before .before .before .before .before .before .before .before .before .before .before .before .before .before .before .before .before .before .before .before .before .before .before .before .before .before .before .before .before .before .before .before .before .before .before .before .before .before .before .args .entry) (c .before .before .before .before .before .before .before .before .before .before .before .before .before .before .before .before .before .before .before .before .before .before .before .before .before .before .before .before .before .before .before .before .before .before .before .before .before .before .before .before .before .before .before .before .before .before .before .before .before .before .args .outcome) (shape (c .before .before .before .before .before .before .before .before .before .before .before .before .before .before .before .before .before .before .before .before .before .before .before .before .before .before .before .before .before .before .before .before .before .before .before .before .before .before .before .before .before .before .before .before .before .before .before .before .before .before)) (c .before .before .before .before .before .before .before .before .before .before .before .before .before .before .before .before .before .before .before .before .before .before .before .before .before .before .before .before .before .before .before .before .before .before .before .before .before .before .before .before .before .wake .ensures) (c .before .before .before .before .before .before .before .before .before .before .before .before .before .before .before .before .before .before .before .before .before .before .before .before .before .before .before .before .before .before .before .before .before .step .ensures) (c .before .before .before .before .before .before .before .before .before .before .before .before .before .before .before .before .before .before .before .before .before .before .before .before .before .before .before .before .before .before .is-live .ensures) (c .before .before .before .before .before .before .before .before .before .before .before .before .before .before .before .before .before .before .before .before .before .before .before .before .before .before .before .before .before .is-live2 .ensures) (c .before .before .before .before .before .before .before .before .before .before .before .before .before .before .before .before .before .before .before .before .before .put-off .ensures)
     (c .before .before .before .before .before .before .before .before .before .before .before .before .before .before .before .before .before .free .ensures) (c .before .before .before .before .before .before .before .before .before .before .staying .ensures)
     (c .before .before .before .before .before .before .before .adopt .ensures)
     (c .before .before .before .keep .ensures ∙ ap (λ (q : JobList). listed (keep (λ j. getD (c .before .before .before .before .before .before .before .before .before .before .staying .result) j false) (listOf q))) (c .before .before .before .before .before .queue-of .ensures)) (c .keep2 .ensures))
@@ -192,7 +192,7 @@ pub report-spec : {M : Type 1} → statement M
 report-spec =
     tie.close
     (tie.spec
-    sound-requires
+    sound-with-requires
     returns
     refusal-requires
     returns-2
