@@ -154,7 +154,8 @@ pub fn pick(s: State, now: u64) -> PickReply
 pub fn take_job(s: State, now: u64, transport: u64, dests: &[u64], list: &mut [u16]) -> JobReply
     ensures { λ r. ⌜ jobGave r (list .exit .now) ≡ jobReply s now transport (dests .entry .now) (list .entry .now) ⌝ }
 {
-    if !soundness::sound(s) {
+    let mut pairs = [0u16; 1024];
+    if !soundness::sound_with(s, &mut pairs) {
         return JobReply {
             answer: JobAnswer::Refused(1),
             state: s,
