@@ -62,7 +62,22 @@ fn is_reported(a: ReportAnswer) -> bool {
     }
 }
 
-// Picks, each from the state that the one before left. After 64 all windows are full: from the scene again.
+// One more where something was picked.
+fn count_pick(good: u32, a: PickAnswer) -> u32 {
+    if is_picked(a) {
+        return more(good);
+    }
+    good
+}
+
+fn count_report(good: u32, a: ReportAnswer) -> u32 {
+    if is_reported(a) {
+        return more(good);
+    }
+    good
+}
+
+// Picks, four to a round, each from the state that the one before left. After 64 all windows are full: from the scene again.
 pub fn pick(rounds: u32) -> u32 {
     let scene = scene::whole();
     let mut s = scene;
@@ -70,14 +85,24 @@ pub fn pick(rounds: u32) -> u32 {
     let mut left = rounds;
     while 0 < left {
         left -= 1;
-        let r = scheduler::pick(s, 0);
-        let a = r.answer;
-        if is_picked(a) {
-            good = more(good);
-        }
-        let after = r.state;
+        let p = scheduler::pick(s, 0);
+        let a = p.answer;
+        good = count_pick(good, a);
+        let one = p.state;
+        let q = scheduler::pick(one, 0);
+        let b = q.answer;
+        good = count_pick(good, b);
+        let two = q.state;
+        let r = scheduler::pick(two, 0);
+        let c = r.answer;
+        good = count_pick(good, c);
+        let three = r.state;
+        let t = scheduler::pick(three, 0);
+        let d = t.answer;
+        good = count_pick(good, d);
+        let after = t.state;
         s = after;
-        if left % 64 == 0 {
+        if left % 16 == 0 {
             s = scene;
         }
     }
@@ -108,7 +133,7 @@ fn all_out() -> Out {
     }
 }
 
-// Successes of those entries, from the last to the first, and again.
+// Successes of those entries, four to a round, from the last to the first, and again.
 pub fn report(rounds: u32) -> u32 {
     let out = all_out();
     let scene = out.state;
@@ -119,13 +144,45 @@ pub fn report(rounds: u32) -> u32 {
     let mut left = rounds;
     while 0 < left {
         left -= 1;
-        let k = (left % 64) as usize;
-        let r = scheduler::report(s, 0, entries[k], 64 + k as u64, Outcome::Success, &mut list);
-        let b = r.answer;
-        if is_reported(b) {
-            good = more(good);
-        }
-        let after = r.state;
+        let k = 4 * (left % 16) as usize;
+        let tickets = 64 + k as u64;
+        let p = scheduler::report(
+            s,
+            0,
+            entries[k + 3],
+            tickets + 3,
+            Outcome::Success,
+            &mut list,
+        );
+        let a = p.answer;
+        good = count_report(good, a);
+        let one = p.state;
+        let q = scheduler::report(
+            one,
+            0,
+            entries[k + 2],
+            tickets + 2,
+            Outcome::Success,
+            &mut list,
+        );
+        let b = q.answer;
+        good = count_report(good, b);
+        let two = q.state;
+        let r = scheduler::report(
+            two,
+            0,
+            entries[k + 1],
+            tickets + 1,
+            Outcome::Success,
+            &mut list,
+        );
+        let c = r.answer;
+        good = count_report(good, c);
+        let three = r.state;
+        let t = scheduler::report(three, 0, entries[k], tickets, Outcome::Success, &mut list);
+        let d = t.answer;
+        good = count_report(good, d);
+        let after = t.state;
         s = after;
         if k == 0 {
             s = scene;

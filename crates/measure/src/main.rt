@@ -11,8 +11,8 @@ fn main() {
     if n == 0 {
         show_scene();
         say(b"sound ", loads::sound(64));
-        say(b"pick ", loads::pick(64));
-        say(b"report ", loads::report(64));
+        say(b"pick ", loads::pick(16));
+        say(b"report ", loads::report(16));
         say(b"turn ", loads::turn(216));
         say(b"job ", loads::job(1));
         say(b"ask ", loads::ask(32));
@@ -29,10 +29,10 @@ fn measure(name: &[u8]) {
         say(b"sound ", loads::sound(rounds));
     }
     if check::same(name, b"pick") {
-        say(b"pick ", loads::pick(rounds));
+        say(b"pick ", loads::pick(rounds / 4));
     }
     if check::same(name, b"report") {
-        say(b"report ", loads::report(rounds));
+        say(b"report ", loads::report(rounds / 4));
     }
     if check::same(name, b"turn") {
         say(b"turn ", loads::turn(rounds));

@@ -1,5 +1,6 @@
--- The measure is the turns that are left. Assumes nothing.
-use Prim.Native.Nat.{_≤_, _-_}
+-- The measure is the rounds that are left. Assumes nothing.
+use Prim.Native.Nat.{_≤_}
+use native.Mathlib.Omega.{arith}
 use borrow.Author.Needs.{needs}
 use Rattle.measure.proofs.loads.pick.Statement.{statement}
 use Rattle.measure.proofs.loads.pick.Tie as tie
@@ -22,23 +23,38 @@ sub-left c = search needs
 pick-requires : tie.Need-pick-requires Inv-loop μ-loop
 pick-requires c κs = search needs
 
-is-picked-requires : tie.Need-is-picked-requires Inv-loop μ-loop
-is-picked-requires c κs = search needs
+count-pick-requires : tie.Need-count-pick-requires Inv-loop μ-loop
+count-pick-requires c κs = search needs
 
-more-requires : tie.Need-more-requires Inv-loop μ-loop
-more-requires c κs = search needs
+pick-requires-2 : tie.Need-pick-requires-2 Inv-loop μ-loop
+pick-requires-2 c κs = search needs
+
+count-pick-requires-2 : tie.Need-count-pick-requires-2 Inv-loop μ-loop
+count-pick-requires-2 c κs = search needs
+
+pick-requires-3 : tie.Need-pick-requires-3 Inv-loop μ-loop
+pick-requires-3 c κs = search needs
+
+count-pick-requires-3 : tie.Need-count-pick-requires-3 Inv-loop μ-loop
+count-pick-requires-3 c κs = search needs
+
+pick-requires-4 : tie.Need-pick-requires-4 Inv-loop μ-loop
+pick-requires-4 c κs = search needs
+
+count-pick-requires-4 : tie.Need-count-pick-requires-4 Inv-loop μ-loop
+count-pick-requires-4 c κs = search needs
 
 loop-less : tie.Need-loop-less Inv-loop μ-loop
-loop-less c = search needs
+loop-less c = omega (arith, c .before .before .before .before .before .before .before .before .before .before .before .before .before .loop-test .taken)
 
 loop-again : tie.Need-loop-again Inv-loop μ-loop
-loop-again c = search needs
+loop-again c = omega (arith, c .before .before .before .before .before .before .before .before .before .before .before .before .before .loop-test .taken, c .before .before .before .before .before .before .before .before .before .before .before .before .before .before .loop .inv)
 
 loop-less-2 : tie.Need-loop-less-2 Inv-loop μ-loop
-loop-less-2 c = search needs
+loop-less-2 c = omega (arith, c .before .before .before .before .before .before .before .before .before .before .before .before .before .loop-test .taken)
 
 loop-again-2 : tie.Need-loop-again-2 Inv-loop μ-loop
-loop-again-2 c = search needs
+loop-again-2 c = omega (arith, c .before .before .before .before .before .before .before .before .before .before .before .before .before .loop-test .taken, c .before .before .before .before .before .before .before .before .before .before .before .before .before .before .loop .inv)
 
 returns : tie.Need-returns Inv-loop μ-loop
 returns c = search needs
@@ -53,8 +69,13 @@ pick-spec =
     loop-holds
     sub-left
     pick-requires
-    is-picked-requires
-    more-requires
+    count-pick-requires
+    pick-requires-2
+    count-pick-requires-2
+    pick-requires-3
+    count-pick-requires-3
+    pick-requires-4
+    count-pick-requires-4
     loop-less
     loop-again
     loop-less-2
