@@ -1,4 +1,4 @@
--- `choice::choose` meets its contract: the leaf functions read what the rules read (proofs/Glue.antt), and proofs/Chosen.antt puts it together. Assumes nothing.
+-- `choice::choose` meets its contract: the leaf functions read what the rules read (proofs/Pairs.antt, proofs/Glue.antt), and proofs/Chosen.antt puts it together. Assumes nothing.
 use Prim.Native.Nat.{ℕ, _*_, _≤_, _<_}
 use mathlib.Core.Path.{_≡_, refl, sym, _∙_, ap, subst}
 use mathlib.Core.Bool.{true}
@@ -17,7 +17,8 @@ use Rattle.choice.specs.Facts.{Reads}
 use Rattle.choice.proofs.Shapes.{length-mapped, each-at}
 use Rattle.choice.proofs.Credits.{index-fits, same-below}
 use Rattle.choice.proofs.Lefts.{left-is, fits-left}
-use Rattle.choice.proofs.Glue.{TurnRead, adds-read, tally-reads, turn-read, not-found, place-open, first-read, next-open, placed-read, entry-read}
+use Rattle.choice.proofs.Pairs.{tally-reads, place-open, first-read}
+use Rattle.choice.proofs.Glue.{TurnRead, adds-read, turn-read, not-found, next-open, placed-read, entry-read}
 use Rattle.choice.proofs.Chosen.{slots-read, arrived-read, sold-read, job-read, nothing-chosen, all-chosen}
 use Rattle.choice.proofs.choose.Statement.{statement}
 use Rattle.choice.proofs.choose.Tie as tie
