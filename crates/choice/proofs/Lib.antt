@@ -5,7 +5,6 @@ pub mod Credits
 pub mod Bests
 pub mod Fronts
 pub mod Preempts
-pub mod Shapes
 pub mod Pairs
 pub mod Glue
 pub mod Chosen

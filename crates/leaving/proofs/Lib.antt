@@ -4,5 +4,4 @@ pub mod PutOffLaws
 pub mod Walk
 pub mod Steps
 pub mod RefusalLaws
-pub mod Given
 pub mod ReportLaws

@@ -2,9 +2,9 @@
 use Prim.Native.Nat.{ℕ, zero, suc, _≤_, _<_}
 use mathlib.Core.Path.{_≡_, refl, sym, _∙_, ap, subst}
 use mathlib.Core.Bool.{Bool, true, false, not}
-use mathlib.Core.List.{List, [], _∷_, _++_, map}
+use mathlib.Core.List.{List, [], _∷_, _++_}
 use native.Mathlib.Nat.{suc-ne-zero}
-use lib.ListN.{length, drop, length-map}
+use lib.ListN.{length, drop}
 use lib.Dec.{ltb}
 use borrow.Author.Tests.{lt-ltb, le-ltb}
 use Rattle.laws.specs.Choice.{if_then_else_}
@@ -24,10 +24,6 @@ use Rattle.rules.specs.Board.{textOf, boardText}
 use Rattle.rules.specs.Refusals.{badClock, setupRefusal, jobRefusal, pickRefusal, reportRefusal, askRefusal, boardRefusal}
 use Rattle.rules.specs.Calls.{Says, Reply, refused, answers, written, unlessRefused, setupReply, takingReply, jobReply, pickReply, reportingReply, reportReply}
 use Rattle.rules.specs.Calls.{afterPick, askReply, boardReply}
-
--- a list is as long as its image: the length of an array that came in
-pub length-mapped : {X Y : Type 0} (f : X → Y) (l : List X) (n : ℕ) → length (map f l) ≡ n → length l ≡ n
-length-mapped f l n e = sym (length-map l f) ∙ e
 
 -- Refused, and not refused, in general.
 

@@ -6,3 +6,4 @@ pub mod PairLaws
 pub mod Parts
 pub mod Ranges
 pub mod TallyLaws
+pub mod Shapes

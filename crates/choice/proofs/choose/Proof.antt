@@ -1,12 +1,12 @@
 -- `choice::choose` meets its contract: the leaf functions read what the rules read (proofs/Pairs.antt, proofs/Glue.antt), and proofs/Chosen.antt puts it together. Assumes nothing.
-use Prim.Native.Nat.{ℕ, _*_, _≤_, _<_}
+use Prim.Native.Nat.{_*_, _≤_, _<_}
 use mathlib.Core.Path.{_≡_, refl, sym, _∙_, ap, subst}
 use mathlib.Core.Bool.{true}
 use native.Mathlib.Nat.{lt-of-lt-of-le}
 use lib.Dec.{lit≤}
-use lib.ListN.{length, getD}
+use lib.ListN.{getD}
 use borrow.Author.Tests.{not-true, not-false}
-use Rattle.rules.specs.State.{at, zeroList, zeroSettings, settingsOf, isPresent, orderAt}
+use Rattle.rules.specs.State.{at, zeroSettings, settingsOf, isPresent, orderAt}
 use Rattle.laws.specs.Range.{anyTo}
 use Rattle.rules.specs.Picking.{eligibleTo, hasEligible, nextPlace, nextEntry}
 use Rattle.rules.specs.Preemption.{preemptorOf}
@@ -14,7 +14,7 @@ use Rattle.rules.specs.Setup.{settingsInRange}
 use Rattle.rules.proofs.Shape.{Shaped}
 use Rattle.choice.specs.Choosing.{waitingAt}
 use Rattle.choice.specs.Facts.{Reads}
-use Rattle.choice.proofs.Shapes.{length-mapped, each-at}
+use Rattle.soundness.proofs.Shapes.{shaped}
 use Rattle.choice.proofs.Credits.{index-fits, same-below}
 use Rattle.choice.proofs.Lefts.{left-is, fits-left}
 use Rattle.choice.proofs.Pairs.{tally-reads, place-open, first-read}
@@ -23,56 +23,20 @@ use Rattle.choice.proofs.Chosen.{slots-read, arrived-read, sold-read, j
 use Rattle.choice.proofs.choose.Statement.{statement}
 use Rattle.choice.proofs.choose.Tie as tie
 
-queue-long : (c : tie.Start) (t : ℕ) → t < 4 → length (getD (c .args .w .queues) t zeroList .jobs) ≡ 32
-queue-long c t l =
-    let n : length (c .args .w .queues) ≡ 4 = length-mapped _ (c .args .w .queues) 4 (c .good .0 .1 .1 .1 .1 .1 .1 .1 .1 .0 .1 .0 .1) in
-    let e = each-at _ _ (c .args .w .queues) (c .good .0 .1 .1 .1 .1 .1 .1 .1 .1 .0 .0) t zeroList (subst (λ x. t < x) (sym n) l) (c .good .0 .1 .1 .1 .1 .1 .1 .1 .1 .0 .1 .1) in
-    length-mapped _ (getD (c .args .w .queues) t zeroList .jobs) 32 (e .1 .1 .1 .0 .1 .0 .1)
-
 -- a state that came in has its shape
-shaped : (c : tie.Start) → Shaped (c .args .w)
-shaped c =
-    record {
-      destinations = length-mapped _ (c .args .w .destinations) 32 (c .good .0 .1 .1 .1 .1 .1 .1 .0 .1 .0 .1);
-      busy = record { transport = length-mapped _ (c .args .w .busy .transport) 4 (c .good .0 .1 .1 .1 .1 .1 .1 .1 .0 .1 .1 .0 .1 .0 .1); destination = length-mapped _ (c .args .w .busy .destination) 32 (c .good .0 .1 .1 .1 .1 .1 .1 .1 .0 .1 .1 .1 .0 .1 .0 .1) };
-      queues = length-mapped _ (c .args .w .queues) 4 (c .good .0 .1 .1 .1 .1 .1 .1 .1 .1 .0 .1 .0 .1);
-      queue = λ t l. queue-long c t l;
-      arrivals = length-mapped _ (c .args .w .arrivals .jobs) 32 (c .good .0 .1 .1 .1 .1 .1 .1 .1 .1 .1 .0 .1 .1 .0 .1 .0 .1);
-      jobs =
-          record {
-            present = length-mapped _ (c .args .w .jobs .present) 32 (c .good .0 .1 .1 .1 .1 .1 .1 .1 .1 .1 .1 .0 .1 .1 .0 .1 .0 .1);
-            transport = length-mapped _ (c .args .w .jobs .transport) 32 (c .good .0 .1 .1 .1 .1 .1 .1 .1 .1 .1 .1 .0 .1 .1 .1 .0 .1 .0 .1);
-            n = length-mapped _ (c .args .w .jobs .n) 32 (c .good .0 .1 .1 .1 .1 .1 .1 .1 .1 .1 .1 .0 .1 .1 .1 .1 .0 .1 .0 .1);
-            picked = length-mapped _ (c .args .w .jobs .picked) 32 (c .good .0 .1 .1 .1 .1 .1 .1 .1 .1 .1 .1 .0 .1 .1 .1 .1 .1 .0 .1 .0 .1);
-            dropped = length-mapped _ (c .args .w .jobs .dropped) 32 (c .good .0 .1 .1 .1 .1 .1 .1 .1 .1 .1 .1 .0 .1 .1 .1 .1 .1 .1 .0 .1 .0 .1);
-            sold = length-mapped _ (c .args .w .jobs .sold) 32 (c .good .0 .1 .1 .1 .1 .1 .1 .1 .1 .1 .1 .0 .1 .1 .1 .1 .1 .1 .1 .0 .1 .0 .1);
-            parent = length-mapped _ (c .args .w .jobs .parent) 32 (c .good .0 .1 .1 .1 .1 .1 .1 .1 .1 .1 .1 .0 .1 .1 .1 .1 .1 .1 .1 .1 .0 .1 .0 .1);
-            preempted = length-mapped _ (c .args .w .jobs .preempted) 32 (c .good .0 .1 .1 .1 .1 .1 .1 .1 .1 .1 .1 .0 .1 .1 .1 .1 .1 .1 .1 .1 .1 .0 .1 .0 .1);
-            arrival = length-mapped _ (c .args .w .jobs .arrival) 32 (c .good .0 .1 .1 .1 .1 .1 .1 .1 .1 .1 .1 .0 .1 .1 .1 .1 .1 .1 .1 .1 .1 .1 .0 .1 .0 .1);
-            overtakers = length-mapped _ (c .args .w .jobs .overtakers) 32 (c .good .0 .1 .1 .1 .1 .1 .1 .1 .1 .1 .1 .0 .1 .1 .1 .1 .1 .1 .1 .1 .1 .1 .1 .0 .1 .0 .1);
-            turn = length-mapped _ (c .args .w .jobs .turn) 32 (c .good .0 .1 .1 .1 .1 .1 .1 .1 .1 .1 .1 .0 .1 .1 .1 .1 .1 .1 .1 .1 .1 .1 .1 .1 .0 .1 .0 .1);
-            places = length-mapped _ (c .args .w .jobs .places) 32 (c .good .0 .1 .1 .1 .1 .1 .1 .1 .1 .1 .1 .0 .1 .1 .1 .1 .1 .1 .1 .1 .1 .1 .1 .1 .1 .0 .1 .0 .1);
-            order = length-mapped _ (c .args .w .jobs .order) 1024 (c .good .0 .1 .1 .1 .1 .1 .1 .1 .1 .1 .1 .0 .1 .1 .1 .1 .1 .1 .1 .1 .1 .1 .1 .1 .1 .1 .0 .1 .0 .1);
-          };
-      entries =
-          record {
-            kind = length-mapped _ (c .args .w .entries .kind) 512 (c .good .0 .1 .1 .1 .1 .1 .1 .1 .1 .1 .1 .1 .0 .1 .1 .0 .1 .0 .1);
-            job = length-mapped _ (c .args .w .entries .job) 512 (c .good .0 .1 .1 .1 .1 .1 .1 .1 .1 .1 .1 .1 .0 .1 .1 .1 .0 .1 .0 .1);
-            destination = length-mapped _ (c .args .w .entries .destination) 512 (c .good .0 .1 .1 .1 .1 .1 .1 .1 .1 .1 .1 .1 .0 .1 .1 .1 .1 .0 .1 .0 .1);
-            ticket = length-mapped _ (c .args .w .entries .ticket) 512 (c .good .0 .1 .1 .1 .1 .1 .1 .1 .1 .1 .1 .1 .0 .1 .1 .1 .1 .1 .0 .1 .0 .1);
-          };
-    }
+shape : (c : tie.Start) → Shaped (c .args .w)
+shape c = shaped (c .args .w) (c .good .0)
 
 tables : (c : tie.After-ready-jobs) → Reads (c .before .before .before .before .before .before .before .before .before .before .before .before .before .before .before .args .w) (c .before .before .left-waiting .result) (c .ready-jobs .result)
 tables c =
-    tally-reads (c .before .before .before .before .before .before .before .before .before .before .before .before .before .before .before .args .w) (shaped (c .before .before .before .before .before .before .before .before .before .before .before .before .before .before .before)) (c .before .before .before .before .before .before .before .before .before .before .before .before .before .before .before .pre .0) (c .before .before .before .before .before .before .before .before .open-table .result) (c .before .before .before .before .before .before .before .before .open-table .ensures) (c .before .before .before .before .before .before .before .before .before .before .before .before .before .before .before .args .pairs .now) (c .before .before .before .before .before .before .before .before .before .before .before .before .before .before .before .pre .3)
+    tally-reads (c .before .before .before .before .before .before .before .before .before .before .before .before .before .before .before .args .w) (shape (c .before .before .before .before .before .before .before .before .before .before .before .before .before .before .before)) (c .before .before .before .before .before .before .before .before .before .before .before .before .before .before .before .pre .0) (c .before .before .before .before .before .before .before .before .open-table .result) (c .before .before .before .before .before .before .before .before .open-table .ensures) (c .before .before .before .before .before .before .before .before .before .before .before .before .before .before .before .args .pairs .now) (c .before .before .before .before .before .before .before .before .before .before .before .before .before .before .before .pre .3)
     (c .before .before .left-waiting .result) (c .ready-jobs .result)
-    (left-is (c .before .before .before .before .before .before .before .before .before .before .before .before .before .before .before .args .w .jobs) (c .before .before .before .before .before .before .before .before .before .before .before .before .before .before .before .args .w .entries .kind) (c .before .before .before .before .before .before .before .before .before .before .before .before .before .before .before .args .w .entries .job) (adds-read (c .before .before .before .before .before .before .before .before .before .before .before .before .before .before .before .args .w) (shaped (c .before .before .before .before .before .before .before .before .before .before .before .before .before .before .before)) (c .before .before .before .before .before .before .before .before .before .before .before .before .before .before .before .pre .0)) (c .before .before .left-waiting .result) (c .before .before .left-waiting .ensures .0) (c .before .before .left-waiting .ensures .1))
+    (left-is (c .before .before .before .before .before .before .before .before .before .before .before .before .before .before .before .args .w .jobs) (c .before .before .before .before .before .before .before .before .before .before .before .before .before .before .before .args .w .entries .kind) (c .before .before .before .before .before .before .before .before .before .before .before .before .before .before .before .args .w .entries .job) (adds-read (c .before .before .before .before .before .before .before .before .before .before .before .before .before .before .before .args .w) (shape (c .before .before .before .before .before .before .before .before .before .before .before .before .before .before .before)) (c .before .before .before .before .before .before .before .before .before .before .before .before .before .before .before .pre .0)) (c .before .before .left-waiting .result) (c .before .before .left-waiting .ensures .0) (c .before .before .left-waiting .ensures .1))
     (c .ready-jobs .ensures .0) (c .ready-jobs .ensures .1)
 
 turned : (c : tie.Else1) → TurnRead (c .before .before .before .before .before .before .before .before .before .before .before .before .before .before .before .before .before .before .before .before .args .w) (c .before .before .next-transport .result .transport) (c .before .before .next-transport .result .job) (c .before .before .next-transport .result .passed)
 turned c =
-    turn-read (c .before .before .before .before .before .before .before .before .before .before .before .before .before .before .before .before .before .before .before .before .args .w) (shaped (c .before .before .before .before .before .before .before .before .before .before .before .before .before .before .before .before .before .before .before .before)) (c .before .before .before .before .before .before .before .before .before .before .before .before .before .before .before .before .before .before .before .before .pre .0) (c .before .before .before .before .before .before .before .left-waiting .result) (c .before .before .before .before .before .ready-jobs .result) (tables (c .before .before .before .before .before))
+    turn-read (c .before .before .before .before .before .before .before .before .before .before .before .before .before .before .before .before .before .before .before .before .args .w) (shape (c .before .before .before .before .before .before .before .before .before .before .before .before .before .before .before .before .before .before .before .before)) (c .before .before .before .before .before .before .before .before .before .before .before .before .before .before .before .before .before .before .before .before .pre .0) (c .before .before .before .before .before .before .before .left-waiting .result) (c .before .before .before .before .before .ready-jobs .result) (tables (c .before .before .before .before .before))
     (c .before .before .next-transport .result .found) (c .before .before .next-transport .result .transport) (c .before .before .next-transport .result .job) (c .before .before .next-transport .result .passed)
     (c .before .before .next-transport .ensures) (not-false (c .before .before .next-transport .result .found) (c .if1 .left))
 
@@ -89,7 +53,7 @@ job-found : (c : tie.After-picked-from)
     → (c .picked-from .result < 32) × (isPresent (c .before .before .before .before .before .before .before .before .before .before .before .before .before .before .before .before .before .before .before .before .before .before .before .before .before .before .args .w) (c .picked-from .result) ≡ true) × (hasEligible (c .before .before .before .before .before .before .before .before .before .before .before .before .before .before .before .before .before .before .before .before .before .before .before .before .before .before .args .w) (c .picked-from .result) ≡ true)
 job-found c =
     let r = turned (c .before .before .before .before .before .before) in
-    job-read (c .before .before .before .before .before .before .before .before .before .before .before .before .before .before .before .before .before .before .before .before .before .before .before .before .before .before .args .w) (shaped (c .before .before .before .before .before .before .before .before .before .before .before .before .before .before .before .before .before .before .before .before .before .before .before .before .before .before)) (c .before .before .before .before .before .before .before .before .before .before .before .before .before .before .before .before .before .before .before .before .before .before .before .before .before .before .pre .0) (c .before .before .before .before .before .before .before .before .before .before .before .before .before .before .before .before .before .before .before .before .before .before .before .before .before .before .args .now) (c .before .before .before .before .before .before .before .before .next-transport .result .transport) (c .before .before .before .before .before .before .before .before .next-transport .result .job)
+    job-read (c .before .before .before .before .before .before .before .before .before .before .before .before .before .before .before .before .before .before .before .before .before .before .before .before .before .before .args .w) (shape (c .before .before .before .before .before .before .before .before .before .before .before .before .before .before .before .before .before .before .before .before .before .before .before .before .before .before)) (c .before .before .before .before .before .before .before .before .before .before .before .before .before .before .before .before .before .before .before .before .before .before .before .before .before .before .pre .0) (c .before .before .before .before .before .before .before .before .before .before .before .before .before .before .before .before .before .before .before .before .before .before .before .before .before .before .args .now) (c .before .before .before .before .before .before .before .before .next-transport .result .transport) (c .before .before .before .before .before .before .before .before .next-transport .result .job)
     (c .before .find-preemptor .result .link) (c .picked-from .result) (r .transport .below) (r .is) (preempted (c .before) .0) (c .picked-from .ensures)
 
 from-below : (c : tie.After-wide2) → c .wide2 .result < 32
@@ -99,24 +63,24 @@ from-below c = same-below (c .wide2 .result) (c .before .picked-from .result) 32
 place-at : (c : tie.After-next-place) → (c .next-place .result .place ≡ nextPlace (c .before .before .before .before .before .before .before .before .before .before .before .before .before .before .before .before .before .before .before .before .before .before .before .before .before .before .before .before .before .before .before .before .before .args .w) (c .before .before .before .before .before .before .before .picked-from .result)) × (c .next-place .result .destination ≡ orderAt (c .before .before .before .before .before .before .before .before .before .before .before .before .before .before .before .before .before .before .before .before .before .before .before .before .before .before .before .before .before .before .before .before .before .args .w) (c .before .before .before .before .before .before .before .picked-from .result) (nextPlace (c .before .before .before .before .before .before .before .before .before .before .before .before .before .before .before .before .before .before .before .before .before .before .before .before .before .before .before .before .before .before .before .before .before .args .w) (c .before .before .before .before .before .before .before .picked-from .result)))
 place-at c =
     let j = job-found (c .before .before .before .before .before .before .before) in
-    placed-read (c .before .before .before .before .before .before .before .before .before .before .before .before .before .before .before .before .before .before .before .before .before .before .before .before .before .before .before .before .before .before .before .before .before .args .w) (shaped (c .before .before .before .before .before .before .before .before .before .before .before .before .before .before .before .before .before .before .before .before .before .before .before .before .before .before .before .before .before .before .before .before .before)) (c .before .before .before .before .before .before .before .before .before .before .before .before .before .before .before .before .before .before .before .before .before .before .before .before .before .before .before .before .before .before .before .before .before .pre .0) (c .before .before .before .before .before .before .before .picked-from .result) (j .0) (j .1) (j .2) (c .before .before .before .before .before .before .before .before .before .before .before .before .before .before .before .before .before .before .before .before .before .before .before .before .before .before .before .before .before .before .before .before .before .args .pairs .now) (c .before .before .before .before .before .before .before .before .before .before .before .before .before .before .before .before .before .before .before .before .before .before .before .before .before .before .open-table .result)
-    (λ k. place-open (c .before .before .before .before .before .before .before .before .before .before .before .before .before .before .before .before .before .before .before .before .before .before .before .before .before .before .before .before .before .before .before .before .before .args .w) (shaped (c .before .before .before .before .before .before .before .before .before .before .before .before .before .before .before .before .before .before .before .before .before .before .before .before .before .before .before .before .before .before .before .before .before)) (c .before .before .before .before .before .before .before .before .before .before .before .before .before .before .before .before .before .before .before .before .before .before .before .before .before .before .before .before .before .before .before .before .before .pre .0) (c .before .before .before .before .before .before .before .before .before .before .before .before .before .before .before .before .before .before .before .before .before .before .before .before .before .before .open-table .result) (c .before .before .before .before .before .before .before .before .before .before .before .before .before .before .before .before .before .before .before .before .before .before .before .before .before .before .open-table .ensures) (c .before .before .before .before .before .before .before .before .before .before .before .before .before .before .before .before .before .before .before .before .before .before .before .before .before .before .before .before .before .before .before .before .before .args .pairs .now) (c .before .before .before .before .before .before .before .before .before .before .before .before .before .before .before .before .before .before .before .before .before .before .before .before .before .before .before .before .before .before .before .before .before .pre .3) (c .before .before .before .before .before .before .before .picked-from .result) k (j .0))
+    placed-read (c .before .before .before .before .before .before .before .before .before .before .before .before .before .before .before .before .before .before .before .before .before .before .before .before .before .before .before .before .before .before .before .before .before .args .w) (shape (c .before .before .before .before .before .before .before .before .before .before .before .before .before .before .before .before .before .before .before .before .before .before .before .before .before .before .before .before .before .before .before .before .before)) (c .before .before .before .before .before .before .before .before .before .before .before .before .before .before .before .before .before .before .before .before .before .before .before .before .before .before .before .before .before .before .before .before .before .pre .0) (c .before .before .before .before .before .before .before .picked-from .result) (j .0) (j .1) (j .2) (c .before .before .before .before .before .before .before .before .before .before .before .before .before .before .before .before .before .before .before .before .before .before .before .before .before .before .before .before .before .before .before .before .before .args .pairs .now) (c .before .before .before .before .before .before .before .before .before .before .before .before .before .before .before .before .before .before .before .before .before .before .before .before .before .before .open-table .result)
+    (λ k. place-open (c .before .before .before .before .before .before .before .before .before .before .before .before .before .before .before .before .before .before .before .before .before .before .before .before .before .before .before .before .before .before .before .before .before .args .w) (shape (c .before .before .before .before .before .before .before .before .before .before .before .before .before .before .before .before .before .before .before .before .before .before .before .before .before .before .before .before .before .before .before .before .before)) (c .before .before .before .before .before .before .before .before .before .before .before .before .before .before .before .before .before .before .before .before .before .before .before .before .before .before .before .before .before .before .before .before .before .pre .0) (c .before .before .before .before .before .before .before .before .before .before .before .before .before .before .before .before .before .before .before .before .before .before .before .before .before .before .open-table .result) (c .before .before .before .before .before .before .before .before .before .before .before .before .before .before .before .before .before .before .before .before .before .before .before .before .before .before .open-table .ensures) (c .before .before .before .before .before .before .before .before .before .before .before .before .before .before .before .before .before .before .before .before .before .before .before .before .before .before .before .before .before .before .before .before .before .args .pairs .now) (c .before .before .before .before .before .before .before .before .before .before .before .before .before .before .before .before .before .before .before .before .before .before .before .before .before .before .before .before .before .before .before .before .before .pre .3) (c .before .before .before .before .before .before .before .picked-from .result) k (j .0))
     (c .before .before .before .before .before .before .wide2 .result) (c .next-place .result .place) (c .next-place .result .destination) (c .before .before .before .before .before .before .wide2 .ensures .0) (c .next-place .ensures)
 
 entry-at : (c : tie.After-first-waiting) → c .first-waiting .result ≡ nextEntry (c .before .before .before .before .before .before .before .before .before .before .before .before .before .before .before .before .before .before .before .before .before .before .before .before .before .before .before .before .before .before .before .before .before .before .before .before .before .before .before .before .args .w) (c .before .before .before .before .before .before .before .before .before .before .before .before .before .before .picked-from .result)
 entry-at c =
     let j = job-found (c .before .before .before .before .before .before .before .before .before .before .before .before .before .before) in
     let k = place-at (c .before .before .before .before .before .before .before) in
-    entry-read (c .before .before .before .before .before .before .before .before .before .before .before .before .before .before .before .before .before .before .before .before .before .before .before .before .before .before .before .before .before .before .before .before .before .before .before .before .before .before .before .before .args .w) (shaped (c .before .before .before .before .before .before .before .before .before .before .before .before .before .before .before .before .before .before .before .before .before .before .before .before .before .before .before .before .before .before .before .before .before .before .before .before .before .before .before .before)) (c .before .before .before .before .before .before .before .before .before .before .before .before .before .before .before .before .before .before .before .before .before .before .before .before .before .before .before .before .before .before .before .before .before .before .before .before .before .before .before .before .pre .0) (c .before .before .before .before .before .before .before .before .before .before .before .before .before .before .picked-from .result) (j .0) (j .1) (j .2) (c .before .before .before .before .before .before .before .next-place .result .destination) (c .first-waiting .result) (k .1)
+    entry-read (c .before .before .before .before .before .before .before .before .before .before .before .before .before .before .before .before .before .before .before .before .before .before .before .before .before .before .before .before .before .before .before .before .before .before .before .before .before .before .before .before .args .w) (shape (c .before .before .before .before .before .before .before .before .before .before .before .before .before .before .before .before .before .before .before .before .before .before .before .before .before .before .before .before .before .before .before .before .before .before .before .before .before .before .before .before)) (c .before .before .before .before .before .before .before .before .before .before .before .before .before .before .before .before .before .before .before .before .before .before .before .before .before .before .before .before .before .before .before .before .before .before .before .before .before .before .before .before .pre .0) (c .before .before .before .before .before .before .before .before .before .before .before .before .before .before .picked-from .result) (j .0) (j .1) (j .2) (c .before .before .before .before .before .before .before .next-place .result .destination) (c .first-waiting .result) (k .1)
     (c .first-waiting .ensures
-    ∙ first-read (c .before .before .before .before .before .before .before .before .before .before .before .before .before .before .before .before .before .before .before .before .before .before .before .before .before .before .before .before .before .before .before .before .before .before .before .before .before .before .before .before .args .w) (shaped (c .before .before .before .before .before .before .before .before .before .before .before .before .before .before .before .before .before .before .before .before .before .before .before .before .before .before .before .before .before .before .before .before .before .before .before .before .before .before .before .before)) (c .before .before .before .before .before .before .before .before .before .before .before .before .before .before .before .before .before .before .before .before .before .before .before .before .before .before .before .before .before .before .before .before .before .before .before .before .before .before .before .before .pre .0) (c .before .before .before .before .before .before .before .before .before .before .before .before .before .before .before .before .before .before .before .before .before .before .before .before .before .before .before .before .before .before .before .before .before .open-table .result) (c .before .before .before .before .before .before .before .before .before .before .before .before .before .before .before .before .before .before .before .before .before .before .before .before .before .before .before .before .before .before .before .before .before .open-table .ensures) (c .before .before .before .before .before .before .before .before .before .before .before .before .before .before .before .before .before .before .before .before .before .before .before .before .before .before .before .before .before .before .before .before .before .before .before .before .before .before .before .before .args .pairs .now) (c .before .before .before .before .before .before .before .before .before .before .before .before .before .before .before .before .before .before .before .before .before .before .before .before .before .before .before .before .before .before .before .before .before .before .before .before .before .before .before .before .pre .3) (c .before .before .before .before .before .before .before .before .before .before .before .before .before .before .picked-from .result) (c .before .before .before .before .before .before .before .next-place .result .destination)
-    (subst (λ d. anyTo (eligibleTo (c .before .before .before .before .before .before .before .before .before .before .before .before .before .before .before .before .before .before .before .before .before .before .before .before .before .before .before .before .before .before .before .before .before .before .before .before .before .before .before .before .args .w) (c .before .before .before .before .before .before .before .before .before .before .before .before .before .before .picked-from .result) d) 512 ≡ true) (sym (k .1)) (next-open (c .before .before .before .before .before .before .before .before .before .before .before .before .before .before .before .before .before .before .before .before .before .before .before .before .before .before .before .before .before .before .before .before .before .before .before .before .before .before .before .before .args .w) (shaped (c .before .before .before .before .before .before .before .before .before .before .before .before .before .before .before .before .before .before .before .before .before .before .before .before .before .before .before .before .before .before .before .before .before .before .before .before .before .before .before .before)) (c .before .before .before .before .before .before .before .before .before .before .before .before .before .before .before .before .before .before .before .before .before .before .before .before .before .before .before .before .before .before .before .before .before .before .before .before .before .before .before .before .pre .0) (c .before .before .before .before .before .before .before .before .before .before .before .before .before .before .picked-from .result) (j .0) (j .1) (j .2))))
+    ∙ first-read (c .before .before .before .before .before .before .before .before .before .before .before .before .before .before .before .before .before .before .before .before .before .before .before .before .before .before .before .before .before .before .before .before .before .before .before .before .before .before .before .before .args .w) (shape (c .before .before .before .before .before .before .before .before .before .before .before .before .before .before .before .before .before .before .before .before .before .before .before .before .before .before .before .before .before .before .before .before .before .before .before .before .before .before .before .before)) (c .before .before .before .before .before .before .before .before .before .before .before .before .before .before .before .before .before .before .before .before .before .before .before .before .before .before .before .before .before .before .before .before .before .before .before .before .before .before .before .before .pre .0) (c .before .before .before .before .before .before .before .before .before .before .before .before .before .before .before .before .before .before .before .before .before .before .before .before .before .before .before .before .before .before .before .before .before .open-table .result) (c .before .before .before .before .before .before .before .before .before .before .before .before .before .before .before .before .before .before .before .before .before .before .before .before .before .before .before .before .before .before .before .before .before .open-table .ensures) (c .before .before .before .before .before .before .before .before .before .before .before .before .before .before .before .before .before .before .before .before .before .before .before .before .before .before .before .before .before .before .before .before .before .before .before .before .before .before .before .before .args .pairs .now) (c .before .before .before .before .before .before .before .before .before .before .before .before .before .before .before .before .before .before .before .before .before .before .before .before .before .before .before .before .before .before .before .before .before .before .before .before .before .before .before .before .pre .3) (c .before .before .before .before .before .before .before .before .before .before .before .before .before .before .picked-from .result) (c .before .before .before .before .before .before .before .next-place .result .destination)
+    (subst (λ d. anyTo (eligibleTo (c .before .before .before .before .before .before .before .before .before .before .before .before .before .before .before .before .before .before .before .before .before .before .before .before .before .before .before .before .before .before .before .before .before .before .before .before .before .before .before .before .args .w) (c .before .before .before .before .before .before .before .before .before .before .before .before .before .before .picked-from .result) d) 512 ≡ true) (sym (k .1)) (next-open (c .before .before .before .before .before .before .before .before .before .before .before .before .before .before .before .before .before .before .before .before .before .before .before .before .before .before .before .before .before .before .before .before .before .before .before .before .before .before .before .before .args .w) (shape (c .before .before .before .before .before .before .before .before .before .before .before .before .before .before .before .before .before .before .before .before .before .before .before .before .before .before .before .before .before .before .before .before .before .before .before .before .before .before .before .before)) (c .before .before .before .before .before .before .before .before .before .before .before .before .before .before .before .before .before .before .before .before .before .before .before .before .before .before .before .before .before .before .before .before .before .before .before .before .before .before .before .before .pre .0) (c .before .before .before .before .before .before .before .before .before .before .before .before .before .before .picked-from .result) (j .0) (j .1) (j .2))))
 
 open-table-requires : tie.Need-open-table-requires
 open-table-requires c κs = (c .before .before .before .before .before .before .pre .0) .setup
 
 left-waiting-requires : tie.Need-left-waiting-requires
-left-waiting-requires c κs = fits-left (c .before .before .before .before .before .before .before .before .before .before .before .before .args .w .jobs) (c .before .before .before .before .before .before .before .before .before .before .before .before .args .w .entries .kind) (c .before .before .before .before .before .before .before .before .before .before .before .before .args .w .entries .job) (adds-read (c .before .before .before .before .before .before .before .before .before .before .before .before .args .w) (shaped (c .before .before .before .before .before .before .before .before .before .before .before .before)) (c .before .before .before .before .before .before .before .before .before .before .before .before .pre .0))
+left-waiting-requires c κs = fits-left (c .before .before .before .before .before .before .before .before .before .before .before .before .args .w .jobs) (c .before .before .before .before .before .before .before .before .before .before .before .before .args .w .entries .kind) (c .before .before .before .before .before .before .before .before .before .before .before .before .args .w .entries .job) (adds-read (c .before .before .before .before .before .before .before .before .before .before .before .before .args .w) (shape (c .before .before .before .before .before .before .before .before .before .before .before .before)) (c .before .before .before .before .before .before .before .before .before .before .before .before .pre .0))
 
 ready-jobs-requires : tie.Need-ready-jobs-requires
 ready-jobs-requires c κs = tt
@@ -126,13 +90,13 @@ next-transport-requires c κs = let h = (c .before .before .before .before .befo
   h .setup .transports .0,
   h .setup .transports .1,
   h .turn,
-  shaped (c .before .before .before .before .before .before .before .before .before .before .before .before .before .before .before .before .before) .queues,
-  λ t l. (h .queues t l .count, shaped (c .before .before .before .before .before .before .before .before .before .before .before .before .before .before .before .before .before) .queue t (lt-of-lt-of-le l (h .setup .transports .1))),
+  shape (c .before .before .before .before .before .before .before .before .before .before .before .before .before .before .before .before .before) .queues,
+  λ t l. (h .queues t l .count, shape (c .before .before .before .before .before .before .before .before .before .before .before .before .before .before .before .before .before) .queue t (lt-of-lt-of-le l (h .setup .transports .1))),
 )
 
 returns : tie.Need-returns
 returns c = nothing-chosen (c .before .before .before .before .before .before .before .before .before .before .before .before .before .before .before .before .before .before .before .before .args .w) (c .before .before .before .before .before .before .before .before .before .before .before .before .before .before .before .before .before .before .before .before .args .now)
-    (not-found (c .before .before .before .before .before .before .before .before .before .before .before .before .before .before .before .before .before .before .before .before .args .w) (shaped (c .before .before .before .before .before .before .before .before .before .before .before .before .before .before .before .before .before .before .before .before)) (c .before .before .before .before .before .before .before .before .before .before .before .before .before .before .before .before .before .before .before .before .pre .0) (c .before .before .before .before .before .before .before .left-waiting .result) (c .before .before .before .before .before .ready-jobs .result) (tables (c .before .before .before .before .before))
+    (not-found (c .before .before .before .before .before .before .before .before .before .before .before .before .before .before .before .before .before .before .before .before .args .w) (shape (c .before .before .before .before .before .before .before .before .before .before .before .before .before .before .before .before .before .before .before .before)) (c .before .before .before .before .before .before .before .before .before .before .before .before .before .before .before .before .before .before .before .before .pre .0) (c .before .before .before .before .before .before .before .left-waiting .result) (c .before .before .before .before .before .ready-jobs .result) (tables (c .before .before .before .before .before))
     (c .before .before .next-transport .result .found) (c .before .before .next-transport .result .transport) (c .before .before .next-transport .result .job) (c .before .before .next-transport .result .passed) (c .before .before .next-transport .ensures)
     (not-true (c .before .before .next-transport .result .found) (c .if1 .taken)))
 
@@ -150,7 +114,7 @@ find-preemptor-requires c κs = let h = (c .before .before .before .before .befo
     let r = turned (c .before .before .before .before) in
     let g = slots-read (getD (c .before .before .before .before .before .before .before .before .before .before .before .before .before .before .before .before .before .before .before .before .before .before .before .before .args .w .setup .settings) (c .before .before .before .wide .result) zeroSettings)
     (subst (λ x. settingsInRange x ≡ true) (settings-at (c .before .before .before)) (h .setup .settings (c .before .before .before .before .before .before .next-transport .result .transport) (r .transport .below))) in (
-      (c .before .before .before .before .before .before .before .before .before .before .before .before .before .before .before .before .before .before .before .before .before .before .before .before .pre .2, h .arrivals .count, shaped (c .before .before .before .before .before .before .before .before .before .before .before .before .before .before .before .before .before .before .before .before .before .before .before .before) .arrivals, arrived-read (c .before .before .before .before .before .before .before .before .before .before .before .before .before .before .before .before .before .before .before .before .before .before .before .before .args .w) (shaped (c .before .before .before .before .before .before .before .before .before .before .before .before .before .before .before .before .before .before .before .before .before .before .before .before)) h (c .before .before .before .before .before .before .before .before .before .before .before .before .before .before .before .before .before .before .before .before .before .before .before .before .args .now) (c .before .before .before .before .before .before .before .before .before .before .before .before .before .before .before .before .before .before .before .before .before .before .before .before .pre .1)),
+      (c .before .before .before .before .before .before .before .before .before .before .before .before .before .before .before .before .before .before .before .before .before .before .before .before .pre .2, h .arrivals .count, shape (c .before .before .before .before .before .before .before .before .before .before .before .before .before .before .before .before .before .before .before .before .before .before .before .before) .arrivals, arrived-read (c .before .before .before .before .before .before .before .before .before .before .before .before .before .before .before .before .before .before .before .before .before .before .before .before .args .w) (shape (c .before .before .before .before .before .before .before .before .before .before .before .before .before .before .before .before .before .before .before .before .before .before .before .before)) h (c .before .before .before .before .before .before .before .before .before .before .before .before .before .before .before .before .before .before .before .before .before .before .before .before .args .now) (c .before .before .before .before .before .before .before .before .before .before .before .before .before .before .before .before .before .before .before .before .before .before .before .before .pre .1)),
       (
         r .is .below,
         g .0,
@@ -158,7 +122,7 @@ find-preemptor-requires c κs = let h = (c .before .before .before .before .befo
         g .2,
         g .3,
         subst (λ x. x .cost * at (c .before .before .before .before .before .before .before .before .before .before .before .before .before .before .before .before .before .before .before .before .before .before .before .before .args .w .jobs .sold) (c .before .before .before .before .before .before .next-transport .result .job) ≤ 256) (settings-at (c .before .before .before))
-            (sold-read (c .before .before .before .before .before .before .before .before .before .before .before .before .before .before .before .before .before .before .before .before .before .before .before .before .args .w) (shaped (c .before .before .before .before .before .before .before .before .before .before .before .before .before .before .before .before .before .before .before .before .before .before .before .before)) h (c .before .before .before .before .before .before .next-transport .result .transport) (c .before .before .before .before .before .before .next-transport .result .job) (r .is)),
+            (sold-read (c .before .before .before .before .before .before .before .before .before .before .before .before .before .before .before .before .before .before .before .before .before .before .before .before .args .w) (shape (c .before .before .before .before .before .before .before .before .before .before .before .before .before .before .before .before .before .before .before .before .before .before .before .before)) h (c .before .before .before .before .before .before .next-transport .result .transport) (c .before .before .before .before .before .before .next-transport .result .job) (r .is)),
       ),
     )
 

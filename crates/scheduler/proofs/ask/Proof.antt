@@ -3,7 +3,8 @@ use mathlib.Core.Path.{refl, sym, _∙_, subst}
 use mathlib.Core.Bool.{false}
 use lib.ListN.{List·getD-eq-default}
 use borrow.Author.Tests.{not-true, not-false}
-use Rattle.scheduler.proofs.CallLaws.{length-mapped, ask-unsound, ask-absent, ask-answered}
+use Rattle.soundness.proofs.Shapes.{shaped}
+use Rattle.scheduler.proofs.CallLaws.{ask-unsound, ask-absent, ask-answered}
 use borrow.Author.Needs.{needs}
 use Rattle.scheduler.proofs.ask.Statement.{statement}
 use Rattle.scheduler.proofs.ask.Tie as tie
@@ -21,7 +22,7 @@ returns c = ask-unsound (c .before .before .args .s) (c .before .before .args .j
 
 -- src/lib.rt:38:9
 returns-2 : tie.Need-returns-2
-returns-2 c = ask-absent (c .before .before .before .args .s) (c .before .before .before .args .job) (sym (c .before .before .sound .ensures) ∙ not-false _ (c .before .if1 .left)) (List·getD-eq-default (c .before .before .before .args .s .jobs .present) false (subst (λ n. n ≤ c .before .before .before .args .job) (sym (length-mapped _ (c .before .before .before .args .s .jobs .present) 32 (c .before .before .before .good .0 .1 .1 .1 .1 .1 .1 .1 .1 .1 .1 .0 .1 .1 .0 .1 .0 .1))) (c .if2 .taken)))
+returns-2 c = ask-absent (c .before .before .before .args .s) (c .before .before .before .args .job) (sym (c .before .before .sound .ensures) ∙ not-false _ (c .before .if1 .left)) (List·getD-eq-default (c .before .before .before .args .s .jobs .present) false (subst (λ n. n ≤ c .before .before .before .args .job) (sym (shaped (c .before .before .before .args .s) (c .before .before .before .good .0) .jobs .present)) (c .if2 .taken)))
 
 -- src/lib.rt:42:9
 element-copy-out-if3 : tie.Need-element-copy-out-if3

@@ -1,24 +1,23 @@
 -- The state's shape is in its type. What each step asks follows from soundness and from what was chosen; where the ways of the preemption meet,
 -- `from` says which state it is. Assumes nothing.
-use Prim.Native.Nat.{ℕ, _<_, _≤_}
 use mathlib.Core.Path.{_≡_, refl, sym, _∙_, ap, subst}
 use mathlib.Core.Logic.{_⊎_, inl, inr, ⊎-elim}
 use mathlib.Core.List.{[], _∷_}
 use native.Mathlib.Nat.{le-refl}
 use native.Mathlib.Omega.{arith}
-use lib.ListN.{length, getD, getD-replicate}
+use lib.ListN.{getD-replicate}
 use borrow.Author.Needs.{needs}
 use borrow.Author.Tests.{not-true, not-false}
 use Rattle.laws.specs.Sequence.{moveBefore}
 use Rattle.rules.specs.declared.State.{State}
-use Rattle.rules.specs.State.{zeroList, listOf, listed}
+use Rattle.rules.specs.State.{listOf, listed}
 use Rattle.rules.specs.Windows.{woken}
 use Rattle.rules.specs.Preemption.{preempting}
 use Rattle.rules.specs.Pick.{handedOut}
 use Rattle.rules.specs.Refusals.{pickRefusal}
 use Rattle.rules.specs.Calls.{answers, afterPick}
 use Rattle.rules.proofs.Shape.{Shaped}
-use Rattle.choice.proofs.Shapes.{length-mapped, each-at}
+use Rattle.soundness.proofs.Shapes.{shaped}
 use Rattle.handing.specs.May.{MayPreempt, MayHandOut}
 use Rattle.handing.proofs.Laws.{same-list, preempt-is, hand-out-is}
 use Rattle.handing.proofs.PickLaws.{built, Ready, ready, fits-clock, woken-built, own-sound, gives-nothing, may-hand-plain, gives-plain, may-move, may-hand-moved, gives-moved}
@@ -26,52 +25,16 @@ use Rattle.scheduler.proofs.CallLaws.{pick-unsound, pick-early, pick-la
 use Rattle.scheduler.proofs.pick.Statement.{statement}
 use Rattle.scheduler.proofs.pick.Tie as tie
 
-queue-long : (c : tie.Start) (t : ℕ) → t < 4 → length (getD (c .args .s .queues) t zeroList .jobs) ≡ 32
-queue-long c t l =
-    let n : length (c .args .s .queues) ≡ 4 = length-mapped _ (c .args .s .queues) 4 (c .good .0 .1 .1 .1 .1 .1 .1 .1 .1 .0 .1 .0 .1) in
-    let e = each-at _ _ (c .args .s .queues) (c .good .0 .1 .1 .1 .1 .1 .1 .1 .1 .0 .0) t zeroList (subst (λ x. t < x) (sym n) l) (c .good .0 .1 .1 .1 .1 .1 .1 .1 .1 .0 .1 .1) in
-    length-mapped _ (getD (c .args .s .queues) t zeroList .jobs) 32 (e .1 .1 .1 .0 .1 .0 .1)
-
 -- a state that came in has its shape
-shaped : (c : tie.Start) → Shaped (c .args .s)
-shaped c =
-    record {
-      destinations = length-mapped _ (c .args .s .destinations) 32 (c .good .0 .1 .1 .1 .1 .1 .1 .0 .1 .0 .1);
-      busy = record { transport = length-mapped _ (c .args .s .busy .transport) 4 (c .good .0 .1 .1 .1 .1 .1 .1 .1 .0 .1 .1 .0 .1 .0 .1); destination = length-mapped _ (c .args .s .busy .destination) 32 (c .good .0 .1 .1 .1 .1 .1 .1 .1 .0 .1 .1 .1 .0 .1 .0 .1) };
-      queues = length-mapped _ (c .args .s .queues) 4 (c .good .0 .1 .1 .1 .1 .1 .1 .1 .1 .0 .1 .0 .1);
-      queue = λ t l. queue-long c t l;
-      arrivals = length-mapped _ (c .args .s .arrivals .jobs) 32 (c .good .0 .1 .1 .1 .1 .1 .1 .1 .1 .1 .0 .1 .1 .0 .1 .0 .1);
-      jobs =
-          record {
-            present = length-mapped _ (c .args .s .jobs .present) 32 (c .good .0 .1 .1 .1 .1 .1 .1 .1 .1 .1 .1 .0 .1 .1 .0 .1 .0 .1);
-            transport = length-mapped _ (c .args .s .jobs .transport) 32 (c .good .0 .1 .1 .1 .1 .1 .1 .1 .1 .1 .1 .0 .1 .1 .1 .0 .1 .0 .1);
-            n = length-mapped _ (c .args .s .jobs .n) 32 (c .good .0 .1 .1 .1 .1 .1 .1 .1 .1 .1 .1 .0 .1 .1 .1 .1 .0 .1 .0 .1);
-            picked = length-mapped _ (c .args .s .jobs .picked) 32 (c .good .0 .1 .1 .1 .1 .1 .1 .1 .1 .1 .1 .0 .1 .1 .1 .1 .1 .0 .1 .0 .1);
-            dropped = length-mapped _ (c .args .s .jobs .dropped) 32 (c .good .0 .1 .1 .1 .1 .1 .1 .1 .1 .1 .1 .0 .1 .1 .1 .1 .1 .1 .0 .1 .0 .1);
-            sold = length-mapped _ (c .args .s .jobs .sold) 32 (c .good .0 .1 .1 .1 .1 .1 .1 .1 .1 .1 .1 .0 .1 .1 .1 .1 .1 .1 .1 .0 .1 .0 .1);
-            parent = length-mapped _ (c .args .s .jobs .parent) 32 (c .good .0 .1 .1 .1 .1 .1 .1 .1 .1 .1 .1 .0 .1 .1 .1 .1 .1 .1 .1 .1 .0 .1 .0 .1);
-            preempted = length-mapped _ (c .args .s .jobs .preempted) 32 (c .good .0 .1 .1 .1 .1 .1 .1 .1 .1 .1 .1 .0 .1 .1 .1 .1 .1 .1 .1 .1 .1 .0 .1 .0 .1);
-            arrival = length-mapped _ (c .args .s .jobs .arrival) 32 (c .good .0 .1 .1 .1 .1 .1 .1 .1 .1 .1 .1 .0 .1 .1 .1 .1 .1 .1 .1 .1 .1 .1 .0 .1 .0 .1);
-            overtakers = length-mapped _ (c .args .s .jobs .overtakers) 32 (c .good .0 .1 .1 .1 .1 .1 .1 .1 .1 .1 .1 .0 .1 .1 .1 .1 .1 .1 .1 .1 .1 .1 .1 .0 .1 .0 .1);
-            turn = length-mapped _ (c .args .s .jobs .turn) 32 (c .good .0 .1 .1 .1 .1 .1 .1 .1 .1 .1 .1 .0 .1 .1 .1 .1 .1 .1 .1 .1 .1 .1 .1 .1 .0 .1 .0 .1);
-            places = length-mapped _ (c .args .s .jobs .places) 32 (c .good .0 .1 .1 .1 .1 .1 .1 .1 .1 .1 .1 .0 .1 .1 .1 .1 .1 .1 .1 .1 .1 .1 .1 .1 .1 .0 .1 .0 .1);
-            order = length-mapped _ (c .args .s .jobs .order) 1024 (c .good .0 .1 .1 .1 .1 .1 .1 .1 .1 .1 .1 .0 .1 .1 .1 .1 .1 .1 .1 .1 .1 .1 .1 .1 .1 .1 .0 .1 .0 .1);
-          };
-      entries =
-          record {
-            kind = length-mapped _ (c .args .s .entries .kind) 512 (c .good .0 .1 .1 .1 .1 .1 .1 .1 .1 .1 .1 .1 .0 .1 .1 .0 .1 .0 .1);
-            job = length-mapped _ (c .args .s .entries .job) 512 (c .good .0 .1 .1 .1 .1 .1 .1 .1 .1 .1 .1 .1 .0 .1 .1 .1 .0 .1 .0 .1);
-            destination = length-mapped _ (c .args .s .entries .destination) 512 (c .good .0 .1 .1 .1 .1 .1 .1 .1 .1 .1 .1 .1 .0 .1 .1 .1 .1 .0 .1 .0 .1);
-            ticket = length-mapped _ (c .args .s .entries .ticket) 512 (c .good .0 .1 .1 .1 .1 .1 .1 .1 .1 .1 .1 .1 .0 .1 .1 .1 .1 .1 .0 .1 .0 .1);
-          };
-    }
+shape : (c : tie.Start) → Shaped (c .args .s)
+shape c = shaped (c .args .s) (c .good .0)
 
 -- the refusals have passed
 unrefused : (c : tie.Else3) → pickRefusal (c .before .before .before .before .before .before .args .s) (c .before .before .before .before .before .before .args .now) ≡ 0
 unrefused c = pick-unrefused (c .before .before .before .before .before .before .args .s) (c .before .before .before .before .before .before .args .now) (sym (c .before .before .before .before .sound-with .ensures .0) ∙ not-false _ (c .before .before .before .if1 .left)) (c .before .if2 .left) (c .if3 .left)
 
 start : (c : tie.Else3) → Ready (c .before .before .before .before .before .before .args .s) (c .before .before .before .before .before .before .args .now)
-start c = ready (c .before .before .before .before .before .before .args .s) (c .before .before .before .before .before .before .args .now) (shaped (c .before .before .before .before .before .before)) (unrefused c)
+start c = ready (c .before .before .before .before .before .before .args .s) (c .before .before .before .before .before .before .args .now) (shape (c .before .before .before .before .before .before)) (unrefused c)
 
 -- the state that the code has woken
 abbrev woke : tie.After-wake → State

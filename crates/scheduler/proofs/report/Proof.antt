@@ -1,55 +1,27 @@
 -- The state's shape is in its type; from it and soundness follows what each step asks, and `report-is` joins what they ensure. Assumes nothing.
-use Prim.Native.Nat.{ℕ, _≤_}
+use Prim.Native.Nat.{_≤_}
 use mathlib.Core.Path.{_≡_, refl, sym, subst, ap, _∙_}
-use mathlib.Core.Bool.{Bool, false}
+use mathlib.Core.Bool.{false}
 use native.Mathlib.Omega.{arith}
-use lib.ListN.{length, set, getD, getD-replicate}
-use borrow.Author.Needs.{needs, length-unmapped}
+use lib.ListN.{length, getD, getD-replicate}
+use borrow.Author.Needs.{needs}
 use borrow.Author.Tests.{not-true, not-false}
 use Rattle.laws.specs.Sequence.{keep}
 use Rattle.laws.proofs.Table.{length-table}
 use Rattle.rules.specs.declared.JobList.{JobList}
-use Rattle.rules.specs.State.{zeroList, listOf, listed}
+use Rattle.rules.specs.State.{listOf, listed}
 use Rattle.rules.specs.Refusals.{reportRefusal}
 use Rattle.rules.proofs.Shape.{Shaped}
 use Rattle.leaving.specs.Columns.{CanReport}
-use Rattle.leaving.proofs.Given.{each-at, length-field}
+use Rattle.soundness.proofs.Shapes.{shaped}
 use Rattle.leaving.proofs.ReportLaws.{ReportAsks, report-asks, step-asks, put-off-asks, adopt-asks, report-is}
 use Rattle.scheduler.proofs.CallLaws.{report-unsound, report-refused, report-can, report-made}
 use Rattle.scheduler.proofs.report.Statement.{statement}
 use Rattle.scheduler.proofs.report.Tie as tie
 
+-- a state that came in has its shape
 shape : (c : tie.Start) → Shaped (c .args .s)
-shape c =
-    let queues = length-field _ (c .args .s .queues) 4 (c .good .0 .1 .1 .1 .1 .1 .1 .1 .1 .0 .1 .0 .1) in
-    record {
-      destinations = length-field _ (c .args .s .destinations) 32 (c .good .0 .1 .1 .1 .1 .1 .1 .0 .1 .0 .1);
-      busy = record { transport = length-unmapped ℕ (c .args .s .busy .transport) 4 (c .good .0 .1 .1 .1 .1 .1 .1 .1 .0 .1 .1 .0 .1 .0 .1); destination = length-unmapped ℕ (c .args .s .busy .destination) 32 (c .good .0 .1 .1 .1 .1 .1 .1 .1 .0 .1 .1 .1 .0 .1 .0 .1) };
-      queues = queues;
-      queue = λ t l. each-at _ _ (λ q. length (q .jobs) ≡ 32) (λ q vs h. length-unmapped ℕ (q .jobs) 32 (h .1 .1 .0 .1 .0 .1)) (c .args .s .queues) _ (c .good .0 .1 .1 .1 .1 .1 .1 .1 .1 .0 .1 .1) t zeroList (rw queues l);
-      arrivals = length-unmapped ℕ (c .args .s .arrivals .jobs) 32 (c .good .0 .1 .1 .1 .1 .1 .1 .1 .1 .1 .0 .1 .1 .0 .1 .0 .1);
-      jobs = record {
-        present = length-unmapped Bool (c .args .s .jobs .present) 32 (c .good .0 .1 .1 .1 .1 .1 .1 .1 .1 .1 .1 .0 .1 .1 .0 .1 .0 .1);
-        transport = length-unmapped ℕ (c .args .s .jobs .transport) 32 (c .good .0 .1 .1 .1 .1 .1 .1 .1 .1 .1 .1 .0 .1 .1 .1 .0 .1 .0 .1);
-        n = length-unmapped ℕ (c .args .s .jobs .n) 32 (c .good .0 .1 .1 .1 .1 .1 .1 .1 .1 .1 .1 .0 .1 .1 .1 .1 .0 .1 .0 .1);
-        picked = length-unmapped ℕ (c .args .s .jobs .picked) 32 (c .good .0 .1 .1 .1 .1 .1 .1 .1 .1 .1 .1 .0 .1 .1 .1 .1 .1 .0 .1 .0 .1);
-        dropped = length-unmapped ℕ (c .args .s .jobs .dropped) 32 (c .good .0 .1 .1 .1 .1 .1 .1 .1 .1 .1 .1 .0 .1 .1 .1 .1 .1 .1 .0 .1 .0 .1);
-        sold = length-unmapped ℕ (c .args .s .jobs .sold) 32 (c .good .0 .1 .1 .1 .1 .1 .1 .1 .1 .1 .1 .0 .1 .1 .1 .1 .1 .1 .1 .0 .1 .0 .1);
-        parent = length-unmapped ℕ (c .args .s .jobs .parent) 32 (c .good .0 .1 .1 .1 .1 .1 .1 .1 .1 .1 .1 .0 .1 .1 .1 .1 .1 .1 .1 .1 .0 .1 .0 .1);
-        preempted = length-unmapped Bool (c .args .s .jobs .preempted) 32 (c .good .0 .1 .1 .1 .1 .1 .1 .1 .1 .1 .1 .0 .1 .1 .1 .1 .1 .1 .1 .1 .1 .0 .1 .0 .1);
-        arrival = length-unmapped ℕ (c .args .s .jobs .arrival) 32 (c .good .0 .1 .1 .1 .1 .1 .1 .1 .1 .1 .1 .0 .1 .1 .1 .1 .1 .1 .1 .1 .1 .1 .0 .1 .0 .1);
-        overtakers = length-unmapped ℕ (c .args .s .jobs .overtakers) 32 (c .good .0 .1 .1 .1 .1 .1 .1 .1 .1 .1 .1 .0 .1 .1 .1 .1 .1 .1 .1 .1 .1 .1 .1 .0 .1 .0 .1);
-        turn = length-unmapped ℕ (c .args .s .jobs .turn) 32 (c .good .0 .1 .1 .1 .1 .1 .1 .1 .1 .1 .1 .0 .1 .1 .1 .1 .1 .1 .1 .1 .1 .1 .1 .1 .0 .1 .0 .1);
-        places = length-unmapped ℕ (c .args .s .jobs .places) 32 (c .good .0 .1 .1 .1 .1 .1 .1 .1 .1 .1 .1 .0 .1 .1 .1 .1 .1 .1 .1 .1 .1 .1 .1 .1 .1 .0 .1 .0 .1);
-        order = length-unmapped ℕ (c .args .s .jobs .order) 1024 (c .good .0 .1 .1 .1 .1 .1 .1 .1 .1 .1 .1 .0 .1 .1 .1 .1 .1 .1 .1 .1 .1 .1 .1 .1 .1 .1 .0 .1 .0 .1);
-      };
-      entries = record {
-        kind = length-unmapped ℕ (c .args .s .entries .kind) 512 (c .good .0 .1 .1 .1 .1 .1 .1 .1 .1 .1 .1 .1 .0 .1 .1 .0 .1 .0 .1);
-        job = length-unmapped ℕ (c .args .s .entries .job) 512 (c .good .0 .1 .1 .1 .1 .1 .1 .1 .1 .1 .1 .1 .0 .1 .1 .1 .0 .1 .0 .1);
-        destination = length-unmapped ℕ (c .args .s .entries .destination) 512 (c .good .0 .1 .1 .1 .1 .1 .1 .1 .1 .1 .1 .1 .0 .1 .1 .1 .1 .0 .1 .0 .1);
-        ticket = length-unmapped ℕ (c .args .s .entries .ticket) 512 (c .good .0 .1 .1 .1 .1 .1 .1 .1 .1 .1 .1 .1 .0 .1 .1 .1 .1 .1 .0 .1 .0 .1);
-      };
-    }
+shape c = shaped (c .args .s) (c .good .0)
 
 -- the refusals have passed
 accepted : (c : tie.Else2) → reportRefusal (c .before .before .before .before .before .before .args .s) (c .before .before .before .before .before .before .args .now) (c .before .before .before .before .before .before .args .entry) (c .before .before .before .before .before .before .args .ticket) (c .before .before .before .before .before .before .args .list .now) ≡ 0
