@@ -6,13 +6,14 @@ use mathlib.Core.List.{List}
 use native.Mathlib.Decide.{decLt}
 use native.Mathlib.Omega.{arith}
 use lib.Dec.{eqb, ltb}
-use lib.ListN.{getD}
+use lib.ListN.{getD, List·getD-eq-default}
 use borrow.Author.Tests.{lt-ltb, le-ltb, eqb-true, eq-eqb}
 use Rattle.laws.specs.Range.{anyTo, countTo, firstTo}
 use Rattle.laws.proofs.Choice.{case-bool, bool-same, true-not-false, false-of, and-both, and-left, and-right, and-left-false, and-right-false, eqb-self}
 use Rattle.laws.proofs.Count.{count-any}
 use Rattle.laws.proofs.All.{any-of, any-none, any-witness, any-same}
 use Rattle.laws.proofs.First.{first-same}
+use Rattle.laws.proofs.Table.{length-table, getD-table}
 use Rattle.rules.specs.declared.State.{State}
 use Rattle.rules.specs.State.{at, transportOf, isWaiting, jobOf, destinationOf, isPresent, waitsOf, waitingOf, orderAt}
 use Rattle.rules.specs.SoundFacts.{Sound}
@@ -20,8 +21,18 @@ use Rattle.rules.specs.Picking.{hasRoom, hasAgent, eligible, eligibleOf, eligib
 use Rattle.rules.proofs.Shape.{Shaped}
 use Rattle.rules.proofs.EntryFacts.{present-below, waiting-used, eligible-of-eligible, eligible-of-job, eligible-sound}
 use Rattle.soundness.specs.Columns.{tallyTo, Paired}
-use Rattle.choice.specs.Columns.{isOpen, waitsIn, openPair, openTo, waitsFor}
+use Rattle.choice.specs.Columns.{isOpen, waitsIn, openPair, openTo, readyIn, waitsFor}
 use Rattle.choice.specs.Facts.{Reads, openPlace}
+
+-- who is ready: of the 32 jobs, and past them
+
+pub ready-at : (pairs : List ℕ) (room : List Bool) (j : ℕ) → j < 32 → getD (readyIn pairs room) j false ≡ anyTo (openPair pairs room j) 32
+unfolding readyIn
+ready-at pairs room j l = getD-table (λ j. anyTo (openPair pairs room j) 32) 32 j false l
+
+pub ready-past : (pairs : List ℕ) (room : List Bool) (j : ℕ) → 32 ≤ j → getD (readyIn pairs room) j false ≡ false
+unfolding readyIn
+ready-past pairs room j l = List·getD-eq-default (readyIn pairs room) false (omega (arith, length-table (λ j. anyTo (openPair pairs room j) 32) 32, l))
 
 module _ (w : State) (shape : Shaped w) (h : Sound w) (room : List Bool) (rooms : (d : ℕ) → d < w .setup .destinations → getD room d false ≡ isOpen (w .destinations) (w .busy) (w .setup) d)
     (pairs : List ℕ) (paired : Paired (w .entries .kind) (w .entries .job) (w .entries .destination) pairs)
@@ -118,15 +129,14 @@ module _ (w : State) (shape : Shaped w) (h : Sound w) (room : List Bool) (rooms 
         (let s = eligible-sound w h e l (eligible-of-eligible w j e t) in
         omega (arith, a, present-below w shape j (subst (λ x. isPresent w x ≡ true) (eligible-of-job w j e t) (s .present))))))
 
-    pub tally-reads : (waits : List ℕ) (ready : List Bool) → ((j : ℕ) → j < 256 → at waits j ≡ countTo (waitsIn (w .entries .kind) (w .entries .job) j) 512)
-        → ((j : ℕ) → j < 32 → getD ready j false ≡ anyTo (openPair pairs room j) 32) → ((j : ℕ) → 32 ≤ j → j < 256 → getD ready j false ≡ false) → Reads w waits ready
+    pub tally-reads : (waits : List ℕ) → ((j : ℕ) → j < 256 → at waits j ≡ countTo (waitsIn (w .entries .kind) (w .entries .job) j) 512) → Reads w waits (readyIn pairs room)
     unfolding waitingOf waitsOf waitsIn
-    tally-reads waits ready a b c =
+    tally-reads waits a =
         record {
           waiting = a;
           eligible = λ j l. elim (decLt j 32) [
-            | yes p ↦ b j p ∙ ready-read j p
-            | no p ↦ c j (omega arith) l ∙ sym (none-eligible j (omega arith))
+            | yes p ↦ ready-at pairs room j p ∙ ready-read j p
+            | no p ↦ ready-past pairs room j (omega arith) ∙ sym (none-eligible j (omega arith))
           ];
         }
 

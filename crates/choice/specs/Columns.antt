@@ -6,7 +6,7 @@ use mathlib.Core.List.{List}
 use lib.ListN.{getD}
 use lib.Dec.{eqb, ltb}
 use Rattle.laws.specs.Choice.{if_then_else_}
-use Rattle.laws.specs.Range.{countTo}
+use Rattle.laws.specs.Range.{anyTo, countTo, tableTo}
 use Rattle.rules.specs.declared.Busy.{Busy}
 use Rattle.rules.specs.declared.Destination.{Destination}
 use Rattle.rules.specs.declared.Jobs.{Jobs}
@@ -40,6 +40,10 @@ openPair pairs room j d = ltb 0 (at pairs (32 * j + d)) && getD room d false
 -- the same of a number that may be no destination
 unfoldable pub openTo : List ℕ → List Bool → ℕ → ℕ → Bool
 openTo pairs room j d = ltb d 32 && openPair pairs room j d
+
+-- which jobs have an entry that waits for a destination with room
+unfoldable pub readyIn : List ℕ → List Bool → List Bool
+readyIn pairs room = tableTo (λ j. anyTo (openPair pairs room j) 32) 32
 
 -- entry e of job j waits for destination d
 unfoldable pub waitsFor : List ℕ → List ℕ → List ℕ → ℕ → ℕ → ℕ → Bool

@@ -12,7 +12,7 @@ ghost use Rattle.laws.specs.Choice.{if_then_else_};
 ghost use Rattle.laws.specs.Range.{anyTo, firstTo};
 ghost use Rattle.rules.specs.State.{at, isLive, windowOf};
 ghost use Rattle.rules.specs.SoundFacts.{InRange};
-ghost use Rattle.choice.specs.Columns.{isOpen, leftIn, openPair, openTo, waitsFor};
+ghost use Rattle.choice.specs.Columns.{isOpen, leftIn, openPair, openTo, readyIn, waitsFor};
 
 // A byte as an index.
 pub fn wide(x: u8) -> usize
@@ -126,18 +126,14 @@ fn any_open(pairs: &[u16; 1024], room: &[bool; 256], j: usize) -> bool
     any
 }
 
-// The jobs of which this holds.
-pub fn ready_jobs(pairs: &[u16; 1024], room: &[bool; 256]) -> [bool; 256]
-    ensures jobs { λ r. ⌜ ((j : ℕ) → j < 32 → getD r j false ≡ anyTo (openPair (now (pairs .entry)) (now (room .entry)) j) 32) ⌝ }
-    ensures others { λ r. ⌜ ((j : ℕ) → 32 ≤ j → j < 256 → getD r j false ≡ false) ⌝ }
+// The same of any number. From 32 on there is no job.
+pub fn is_ready(pairs: &[u16; 1024], room: &[bool; 256], j: usize) -> bool
+    ensures { λ r. ⌜ r ≡ getD (readyIn (now (pairs .entry)) (now (room .entry))) j false ⌝ }
 {
-    let mut ready = [false; 256];
-    let mut j: usize = 0;
-    while j < 32 {
-        ready[j] = any_open(pairs, room, j);
-        j += 1;
+    if 32 <= j {
+        return false;
     }
-    ready
+    any_open(pairs, room, j)
 }
 
 // The first entry of job j that waits for destination d; 512 where there is none.

@@ -6,7 +6,6 @@ mod turns;
 use entries::first_waiting;
 use entries::left_waiting;
 use entries::open_table;
-use entries::ready_jobs;
 use entries::wide;
 use preemption::find_preemptor;
 use rules::State;
@@ -59,8 +58,7 @@ pub fn choose(w: State, now: u64, pairs: &[u16; 1024]) -> Choice
     let arrivals = w.arrivals;
     let room = open_table(destinations, busy, setup);
     let waits = left_waiting(&jobs.present, &jobs.n, &jobs.picked, &jobs.dropped);
-    let ready = ready_jobs(pairs, &room);
-    let turn = next_transport(queues, setup.transports, w.turn, &waits, &ready);
+    let turn = next_transport(queues, setup.transports, w.turn, &waits, pairs, &room);
     if !turn.found {
         return Choice {
             found: false,
@@ -78,7 +76,7 @@ pub fn choose(w: State, now: u64, pairs: &[u16; 1024]) -> Choice
     let y = turn.job;
     let at = wide(t);
     let settings = setup.settings[at];
-    let p = find_preemptor(jobs, arrivals, settings, &waits, &ready, now, t, y);
+    let p = find_preemptor(jobs, arrivals, settings, &waits, pairs, &room, now, t, y);
     let job = picked_from(y, p.link);
     let from = wide(job);
     let places = jobs.places[from];

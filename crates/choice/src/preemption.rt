@@ -1,4 +1,5 @@
 // Who preempts the current job.
+use crate::entries::is_ready;
 use crate::entries::wide;
 use rules::JobList;
 use rules::Jobs;
@@ -12,6 +13,7 @@ ghost use Rattle.rules.specs.declared.State.{State};
 ghost use Rattle.rules.specs.Sizes.{lastSecond};
 ghost use Rattle.rules.specs.State.{at, settingsOf, waitingOf};
 ghost use Rattle.rules.specs.Preemption.{credit, hasCredit, owned, creditOf, paysFor, bestCandidate, preemptorOf};
+ghost use Rattle.choice.specs.Columns.{readyIn};
 ghost use Rattle.choice.specs.Choosing.{waitingAt};
 ghost use Rattle.choice.specs.Facts.{Reads, Arrived};
 
@@ -51,21 +53,12 @@ fn owned_slots(a: i64) -> u64
     a as u64
 }
 
-// "A candidate is another job of the transport, never picked from, never having preempted, with an eligible entry, and m ≤ (r + a)/c"
-fn candidate(
-    x: u8,
-    y: u8,
-    of: u8,
-    t: u8,
-    picked: u16,
-    preempted: bool,
-    ready: bool,
-    m: u16,
-    most: u64,
-) -> bool
-    ensures { λ r. ⌜ r ≡ (not (eqb x y) && eqb of t && eqb picked 0 && not preempted && ready && leb m most) ⌝ }
+// "A candidate is another job of the transport, never picked from, never having preempted, with an eligible entry, and m ≤ (r + a)/c".
+// All of it but the eligible entry, which takes a search: is_ready is asked for that last.
+fn candidate(x: u8, y: u8, of: u8, t: u8, picked: u16, preempted: bool, m: u16, most: u64) -> bool
+    ensures { λ r. ⌜ r ≡ (not (eqb x y) && eqb of t && eqb picked 0 && not preempted && leb m most) ⌝ }
 {
-    (x != y) & (of == t) & (picked == 0) & !preempted & ready & ((m as u64) <= most)
+    (x != y) & (of == t) & (picked == 0) & !preempted & ((m as u64) <= most)
 }
 
 // Whether one exact fraction is greater than another, by cross multiplication.
@@ -97,7 +90,8 @@ fn best_candidate<'a>(
     jobs: Jobs,
     arrivals: JobList,
     waits: &'a [u16; 256],
-    ready: &'a [bool; 256],
+    pairs: &'a [u16; 1024],
+    room: &'a [bool; 256],
     time: u64,
     t: u8,
     y: u8,
@@ -105,7 +99,7 @@ fn best_candidate<'a>(
 ) -> u8
     requires { ⌜ (time ≤ lastSecond) × (arrivals .count ≤ 32) × (length (arrivals .jobs) ≡ 32) × (Arrived (jobs .arrival) (arrivals .jobs) (arrivals .count) time) ⌝ }
     ensures below { λ r. ⌜ r ≤ 32 ⌝ }
-    ensures best { λ r. ⌜ ((s : State) → s .jobs ≡ jobs → s .arrivals ≡ arrivals → Reads s (now (waits .entry)) (now (ready .entry)) → most ≡ (waitingOf s y + owned (creditOf s t y)) / settingsOf s t .cost → r ≡ bestCandidate s time t y) ⌝ }
+    ensures best { λ r. ⌜ ((s : State) → s .jobs ≡ jobs → s .arrivals ≡ arrivals → Reads s (now (waits .entry)) (readyIn (now (pairs .entry)) (now (room .entry))) → most ≡ (waitingOf s y + owned (creditOf s t y)) / settingsOf s t .cost → r ≡ bestCandidate s time t y) ⌝ }
 {
     let n = arrivals.count as usize;
     let mut best: u8 = 0;
@@ -120,13 +114,14 @@ fn best_candidate<'a>(
             t,
             jobs.picked[k],
             jobs.preempted[k],
-            ready[k],
             waits[k],
             most,
         );
         let ahead = challenges(&jobs.arrival, waits, time, best, x);
         if able & ahead {
-            best = x + 1;
+            if is_ready(pairs, room, k) {
+                best = x + 1;
+            }
         }
         i += 1;
     }
@@ -153,7 +148,8 @@ pub fn find_preemptor<'a>(
     arrivals: JobList,
     g: Settings,
     waits: &'a [u16; 256],
-    ready: &'a [bool; 256],
+    pairs: &'a [u16; 1024],
+    room: &'a [bool; 256],
     time: u64,
     t: u8,
     y: u8,
@@ -161,7 +157,7 @@ pub fn find_preemptor<'a>(
     requires list { ⌜ (time ≤ lastSecond) × (arrivals .count ≤ 32) × (length (arrivals .jobs) ≡ 32) × (Arrived (jobs .arrival) (arrivals .jobs) (arrivals .count) time) ⌝ }
     requires slots { ⌜ (y < 32) × (g .cost ≤ 100) × (g .minimum ≤ 100) × (g .loan ≤ 100) × (g .discount ≤ 100) × (g .cost * at (jobs .sold) y ≤ 256) ⌝ }
     ensures link { λ r. ⌜ r .link ≤ 32 ⌝ }
-    ensures preempts { λ r. ⌜ ((s : State) → s .jobs ≡ jobs → s .arrivals ≡ arrivals → settingsOf s t ≡ g → Reads s (now (waits .entry)) (now (ready .entry)) → (r .link ≡ preemptorOf s time t y) × (r .waiting ≡ waitingAt s (r .link))) ⌝ }
+    ensures preempts { λ r. ⌜ ((s : State) → s .jobs ≡ jobs → s .arrivals ≡ arrivals → settingsOf s t ≡ g → Reads s (now (waits .entry)) (readyIn (now (pairs .entry)) (now (room .entry))) → (r .link ≡ preemptorOf s time t y) × (r .waiting ≡ waitingAt s (r .link))) ⌝ }
 {
     let cost = g.cost;
     if cost == 0 {
@@ -186,7 +182,7 @@ pub fn find_preemptor<'a>(
     }
     let slots = owned_slots(a);
     let most = (wide16(waits[at]) + slots) / cost;
-    let best = best_candidate(jobs, arrivals, waits, ready, time, t, y, most);
+    let best = best_candidate(jobs, arrivals, waits, pairs, room, time, t, y, most);
     if best == 0 {
         return Preemptor {
             link: 0,

@@ -1,4 +1,5 @@
 // Turns: of the transports, and of the destinations of a job.
+use crate::entries::is_ready;
 use crate::entries::open_to;
 use crate::entries::wide;
 use rules::JobList;
@@ -6,6 +7,7 @@ ghost use mathlib.Core.Path.{_≡_};
 ghost use Prim.Native.Nat.{ℕ, _+_, _%_, _<_, _≤_};
 ghost use lib.ListN.{length, take};
 ghost use Rattle.rules.specs.Picking.{stepsTo};
+ghost use Rattle.choice.specs.Columns.{readyIn};
 ghost use Rattle.choice.specs.Facts.{frontOf, aheadOf, Lists, Turned, openPlace, Placed};
 
 // The first job of a list that is ready, and how many before it have a waiting entry.
@@ -18,10 +20,11 @@ fn find_front<'a>(
     jobs: &[u8; 32],
     count: u8,
     waits: &'a [u16; 256],
-    ready: &'a [bool; 256],
+    pairs: &'a [u16; 1024],
+    room: &'a [bool; 256],
 ) -> Front
     requires { ⌜ (count ≤ 32) × (length (now jobs) ≡ 32) ⌝ }
-    ensures job { λ r. ⌜ r .job ≡ frontOf (now (ready .entry)) (take count (now (jobs .entry))) ⌝ }
+    ensures job { λ r. ⌜ r .job ≡ frontOf (readyIn (now (pairs .entry)) (now (room .entry))) (take count (now (jobs .entry))) ⌝ }
     ensures passed { λ r. ⌜ (r .job < 32 → r .passed ≡ aheadOf (now (waits .entry)) (take count (now (jobs .entry))) (r .job)) ⌝ }
 {
     let n = count as usize;
@@ -30,7 +33,7 @@ fn find_front<'a>(
     while i < n {
         let job = jobs[i];
         let j = wide(job);
-        if ready[j] {
+        if is_ready(pairs, room, j) {
             return Front { job, passed };
         }
         if 0 < waits[j] {
@@ -54,10 +57,11 @@ pub fn next_transport<'a>(
     transports: u64,
     start: u8,
     waits: &'a [u16; 256],
-    ready: &'a [bool; 256],
+    pairs: &'a [u16; 1024],
+    room: &'a [bool; 256],
 ) -> Turn
     requires { ⌜ (1 ≤ transports) × (transports ≤ 4) × (start ≤ transports) × (length queues ≡ 4) × (Lists queues transports) ⌝ }
-    ensures { λ r. ⌜ Turned queues transports start (now (waits .entry)) (now (ready .entry)) (r .found) (r .transport) (r .job) (r .passed) ⌝ }
+    ensures { λ r. ⌜ Turned queues transports start (now (waits .entry)) (readyIn (now (pairs .entry)) (now (room .entry))) (r .found) (r .transport) (r .job) (r .passed) ⌝ }
 {
     let n = transports as usize;
     let from = start as usize;
@@ -65,7 +69,7 @@ pub fn next_transport<'a>(
     while i < n {
         let t = (from + i) % n;
         let q = queues[t];
-        let front = find_front(&q.jobs, q.count, waits, ready);
+        let front = find_front(&q.jobs, q.count, waits, pairs, room);
         if front.job < 32 {
             return Turn {
                 found: true,

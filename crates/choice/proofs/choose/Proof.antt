@@ -13,6 +13,7 @@ use Rattle.rules.specs.Preemption.{preemptorOf}
 use Rattle.rules.specs.Setup.{settingsInRange}
 use Rattle.rules.proofs.Shape.{Shaped}
 use Rattle.choice.specs.Choosing.{waitingAt}
+use Rattle.choice.specs.Columns.{readyIn}
 use Rattle.choice.specs.Facts.{Reads}
 use Rattle.soundness.proofs.Shapes.{shaped}
 use Rattle.choice.proofs.Credits.{index-fits, same-below}
@@ -27,54 +28,53 @@ use Rattle.choice.proofs.choose.Tie as tie
 shape : (c : tie.Start) → Shaped (c .args .w)
 shape c = shaped (c .args .w) (c .good .0)
 
-tables : (c : tie.After-ready-jobs) → Reads (c .before .before .before .before .before .before .before .before .before .before .before .before .before .before .before .args .w) (c .before .before .left-waiting .result) (c .ready-jobs .result)
+tables : (c : tie.After-left-waiting) → Reads (c .before .before .before .before .before .before .before .before .before .before .before .before .before .args .w) (c .left-waiting .result) (readyIn (c .before .before .before .before .before .before .before .before .before .before .before .before .before .args .pairs .now) (c .before .before .before .before .before .before .open-table .result))
 tables c =
-    tally-reads (c .before .before .before .before .before .before .before .before .before .before .before .before .before .before .before .args .w) (shape (c .before .before .before .before .before .before .before .before .before .before .before .before .before .before .before)) (c .before .before .before .before .before .before .before .before .before .before .before .before .before .before .before .pre .0) (c .before .before .before .before .before .before .before .before .open-table .result) (c .before .before .before .before .before .before .before .before .open-table .ensures) (c .before .before .before .before .before .before .before .before .before .before .before .before .before .before .before .args .pairs .now) (c .before .before .before .before .before .before .before .before .before .before .before .before .before .before .before .pre .3)
-    (c .before .before .left-waiting .result) (c .ready-jobs .result)
-    (left-is (c .before .before .before .before .before .before .before .before .before .before .before .before .before .before .before .args .w .jobs) (c .before .before .before .before .before .before .before .before .before .before .before .before .before .before .before .args .w .entries .kind) (c .before .before .before .before .before .before .before .before .before .before .before .before .before .before .before .args .w .entries .job) (adds-read (c .before .before .before .before .before .before .before .before .before .before .before .before .before .before .before .args .w) (shape (c .before .before .before .before .before .before .before .before .before .before .before .before .before .before .before)) (c .before .before .before .before .before .before .before .before .before .before .before .before .before .before .before .pre .0)) (c .before .before .left-waiting .result) (c .before .before .left-waiting .ensures .0) (c .before .before .left-waiting .ensures .1))
-    (c .ready-jobs .ensures .0) (c .ready-jobs .ensures .1)
+    tally-reads (c .before .before .before .before .before .before .before .before .before .before .before .before .before .args .w) (shape (c .before .before .before .before .before .before .before .before .before .before .before .before .before)) (c .before .before .before .before .before .before .before .before .before .before .before .before .before .pre .0) (c .before .before .before .before .before .before .open-table .result) (c .before .before .before .before .before .before .open-table .ensures) (c .before .before .before .before .before .before .before .before .before .before .before .before .before .args .pairs .now) (c .before .before .before .before .before .before .before .before .before .before .before .before .before .pre .3)
+    (c .left-waiting .result)
+    (left-is (c .before .before .before .before .before .before .before .before .before .before .before .before .before .args .w .jobs) (c .before .before .before .before .before .before .before .before .before .before .before .before .before .args .w .entries .kind) (c .before .before .before .before .before .before .before .before .before .before .before .before .before .args .w .entries .job) (adds-read (c .before .before .before .before .before .before .before .before .before .before .before .before .before .args .w) (shape (c .before .before .before .before .before .before .before .before .before .before .before .before .before)) (c .before .before .before .before .before .before .before .before .before .before .before .before .before .pre .0)) (c .left-waiting .result) (c .left-waiting .ensures .0) (c .left-waiting .ensures .1))
 
-turned : (c : tie.Else1) → TurnRead (c .before .before .before .before .before .before .before .before .before .before .before .before .before .before .before .before .before .before .before .before .args .w) (c .before .before .next-transport .result .transport) (c .before .before .next-transport .result .job) (c .before .before .next-transport .result .passed)
+turned : (c : tie.Else1) → TurnRead (c .before .before .before .before .before .before .before .before .before .before .before .before .before .before .before .before .before .before .args .w) (c .before .before .next-transport .result .transport) (c .before .before .next-transport .result .job) (c .before .before .next-transport .result .passed)
 turned c =
-    turn-read (c .before .before .before .before .before .before .before .before .before .before .before .before .before .before .before .before .before .before .before .before .args .w) (shape (c .before .before .before .before .before .before .before .before .before .before .before .before .before .before .before .before .before .before .before .before)) (c .before .before .before .before .before .before .before .before .before .before .before .before .before .before .before .before .before .before .before .before .pre .0) (c .before .before .before .before .before .before .before .left-waiting .result) (c .before .before .before .before .before .ready-jobs .result) (tables (c .before .before .before .before .before))
+    turn-read (c .before .before .before .before .before .before .before .before .before .before .before .before .before .before .before .before .before .before .args .w) (shape (c .before .before .before .before .before .before .before .before .before .before .before .before .before .before .before .before .before .before)) (c .before .before .before .before .before .before .before .before .before .before .before .before .before .before .before .before .before .before .pre .0) (c .before .before .before .before .before .left-waiting .result) (readyIn (c .before .before .before .before .before .before .before .before .before .before .before .before .before .before .before .before .before .before .args .pairs .now) (c .before .before .before .before .before .before .before .before .before .before .before .open-table .result)) (tables (c .before .before .before .before .before))
     (c .before .before .next-transport .result .found) (c .before .before .next-transport .result .transport) (c .before .before .next-transport .result .job) (c .before .before .next-transport .result .passed)
     (c .before .before .next-transport .ensures) (not-false (c .before .before .next-transport .result .found) (c .if1 .left))
 
 -- the settings of the transport, as the code reads them
-settings-at : (c : tie.After-wide) → settingsOf (c .before .before .before .before .before .before .before .before .before .before .before .before .before .before .before .before .before .before .before .before .before .args .w) (c .before .before .before .next-transport .result .transport) ≡ getD (c .before .before .before .before .before .before .before .before .before .before .before .before .before .before .before .before .before .before .before .before .before .args .w .setup .settings) (c .wide .result) zeroSettings
-settings-at c = ap (λ x. getD (c .before .before .before .before .before .before .before .before .before .before .before .before .before .before .before .before .before .before .before .before .before .args .w .setup .settings) x zeroSettings) (sym (c .wide .ensures .0))
+settings-at : (c : tie.After-wide) → settingsOf (c .before .before .before .before .before .before .before .before .before .before .before .before .before .before .before .before .before .before .before .args .w) (c .before .before .before .next-transport .result .transport) ≡ getD (c .before .before .before .before .before .before .before .before .before .before .before .before .before .before .before .before .before .before .before .args .w .setup .settings) (c .wide .result) zeroSettings
+settings-at c = ap (λ x. getD (c .before .before .before .before .before .before .before .before .before .before .before .before .before .before .before .before .before .before .before .args .w .setup .settings) x zeroSettings) (sym (c .wide .ensures .0))
 
 preempted : (c : tie.After-find-preemptor)
-    → (c .find-preemptor .result .link ≡ preemptorOf (c .before .before .before .before .before .before .before .before .before .before .before .before .before .before .before .before .before .before .before .before .before .before .before .before .before .args .w) (c .before .before .before .before .before .before .before .before .before .before .before .before .before .before .before .before .before .before .before .before .before .before .before .before .before .args .now) (c .before .before .before .before .before .before .before .next-transport .result .transport) (c .before .before .before .before .before .before .before .next-transport .result .job))
-    × (c .find-preemptor .result .waiting ≡ waitingAt (c .before .before .before .before .before .before .before .before .before .before .before .before .before .before .before .before .before .before .before .before .before .before .before .before .before .args .w) (c .find-preemptor .result .link))
-preempted c = c .find-preemptor .ensures .1 (c .before .before .before .before .before .before .before .before .before .before .before .before .before .before .before .before .before .before .before .before .before .before .before .before .before .args .w) refl refl (settings-at (c .before .before .before .before)) (tables (c .before .before .before .before .before .before .before .before .before .before))
+    → (c .find-preemptor .result .link ≡ preemptorOf (c .before .before .before .before .before .before .before .before .before .before .before .before .before .before .before .before .before .before .before .before .before .before .before .args .w) (c .before .before .before .before .before .before .before .before .before .before .before .before .before .before .before .before .before .before .before .before .before .before .before .args .now) (c .before .before .before .before .before .before .before .next-transport .result .transport) (c .before .before .before .before .before .before .before .next-transport .result .job))
+    × (c .find-preemptor .result .waiting ≡ waitingAt (c .before .before .before .before .before .before .before .before .before .before .before .before .before .before .before .before .before .before .before .before .before .before .before .args .w) (c .find-preemptor .result .link))
+preempted c = c .find-preemptor .ensures .1 (c .before .before .before .before .before .before .before .before .before .before .before .before .before .before .before .before .before .before .before .before .before .before .before .args .w) refl refl (settings-at (c .before .before .before .before)) (tables (c .before .before .before .before .before .before .before .before .before .before))
 
 job-found : (c : tie.After-picked-from)
-    → (c .picked-from .result < 32) × (isPresent (c .before .before .before .before .before .before .before .before .before .before .before .before .before .before .before .before .before .before .before .before .before .before .before .before .before .before .args .w) (c .picked-from .result) ≡ true) × (hasEligible (c .before .before .before .before .before .before .before .before .before .before .before .before .before .before .before .before .before .before .before .before .before .before .before .before .before .before .args .w) (c .picked-from .result) ≡ true)
+    → (c .picked-from .result < 32) × (isPresent (c .before .before .before .before .before .before .before .before .before .before .before .before .before .before .before .before .before .before .before .before .before .before .before .before .args .w) (c .picked-from .result) ≡ true) × (hasEligible (c .before .before .before .before .before .before .before .before .before .before .before .before .before .before .before .before .before .before .before .before .before .before .before .before .args .w) (c .picked-from .result) ≡ true)
 job-found c =
     let r = turned (c .before .before .before .before .before .before) in
-    job-read (c .before .before .before .before .before .before .before .before .before .before .before .before .before .before .before .before .before .before .before .before .before .before .before .before .before .before .args .w) (shape (c .before .before .before .before .before .before .before .before .before .before .before .before .before .before .before .before .before .before .before .before .before .before .before .before .before .before)) (c .before .before .before .before .before .before .before .before .before .before .before .before .before .before .before .before .before .before .before .before .before .before .before .before .before .before .pre .0) (c .before .before .before .before .before .before .before .before .before .before .before .before .before .before .before .before .before .before .before .before .before .before .before .before .before .before .args .now) (c .before .before .before .before .before .before .before .before .next-transport .result .transport) (c .before .before .before .before .before .before .before .before .next-transport .result .job)
+    job-read (c .before .before .before .before .before .before .before .before .before .before .before .before .before .before .before .before .before .before .before .before .before .before .before .before .args .w) (shape (c .before .before .before .before .before .before .before .before .before .before .before .before .before .before .before .before .before .before .before .before .before .before .before .before)) (c .before .before .before .before .before .before .before .before .before .before .before .before .before .before .before .before .before .before .before .before .before .before .before .before .pre .0) (c .before .before .before .before .before .before .before .before .before .before .before .before .before .before .before .before .before .before .before .before .before .before .before .before .args .now) (c .before .before .before .before .before .before .before .before .next-transport .result .transport) (c .before .before .before .before .before .before .before .before .next-transport .result .job)
     (c .before .find-preemptor .result .link) (c .picked-from .result) (r .transport .below) (r .is) (preempted (c .before) .0) (c .picked-from .ensures)
 
 from-below : (c : tie.After-wide2) → c .wide2 .result < 32
 from-below c = same-below (c .wide2 .result) (c .before .picked-from .result) 32 (c .wide2 .ensures .0) (job-found (c .before) .0)
 
 -- the place and the destination that the turn is at
-place-at : (c : tie.After-next-place) → (c .next-place .result .place ≡ nextPlace (c .before .before .before .before .before .before .before .before .before .before .before .before .before .before .before .before .before .before .before .before .before .before .before .before .before .before .before .before .before .before .before .before .before .args .w) (c .before .before .before .before .before .before .before .picked-from .result)) × (c .next-place .result .destination ≡ orderAt (c .before .before .before .before .before .before .before .before .before .before .before .before .before .before .before .before .before .before .before .before .before .before .before .before .before .before .before .before .before .before .before .before .before .args .w) (c .before .before .before .before .before .before .before .picked-from .result) (nextPlace (c .before .before .before .before .before .before .before .before .before .before .before .before .before .before .before .before .before .before .before .before .before .before .before .before .before .before .before .before .before .before .before .before .before .args .w) (c .before .before .before .before .before .before .before .picked-from .result)))
+place-at : (c : tie.After-next-place) → (c .next-place .result .place ≡ nextPlace (c .before .before .before .before .before .before .before .before .before .before .before .before .before .before .before .before .before .before .before .before .before .before .before .before .before .before .before .before .before .before .before .args .w) (c .before .before .before .before .before .before .before .picked-from .result)) × (c .next-place .result .destination ≡ orderAt (c .before .before .before .before .before .before .before .before .before .before .before .before .before .before .before .before .before .before .before .before .before .before .before .before .before .before .before .before .before .before .before .args .w) (c .before .before .before .before .before .before .before .picked-from .result) (nextPlace (c .before .before .before .before .before .before .before .before .before .before .before .before .before .before .before .before .before .before .before .before .before .before .before .before .before .before .before .before .before .before .before .args .w) (c .before .before .before .before .before .before .before .picked-from .result)))
 place-at c =
     let j = job-found (c .before .before .before .before .before .before .before) in
-    placed-read (c .before .before .before .before .before .before .before .before .before .before .before .before .before .before .before .before .before .before .before .before .before .before .before .before .before .before .before .before .before .before .before .before .before .args .w) (shape (c .before .before .before .before .before .before .before .before .before .before .before .before .before .before .before .before .before .before .before .before .before .before .before .before .before .before .before .before .before .before .before .before .before)) (c .before .before .before .before .before .before .before .before .before .before .before .before .before .before .before .before .before .before .before .before .before .before .before .before .before .before .before .before .before .before .before .before .before .pre .0) (c .before .before .before .before .before .before .before .picked-from .result) (j .0) (j .1) (j .2) (c .before .before .before .before .before .before .before .before .before .before .before .before .before .before .before .before .before .before .before .before .before .before .before .before .before .before .before .before .before .before .before .before .before .args .pairs .now) (c .before .before .before .before .before .before .before .before .before .before .before .before .before .before .before .before .before .before .before .before .before .before .before .before .before .before .open-table .result)
-    (λ k. place-open (c .before .before .before .before .before .before .before .before .before .before .before .before .before .before .before .before .before .before .before .before .before .before .before .before .before .before .before .before .before .before .before .before .before .args .w) (shape (c .before .before .before .before .before .before .before .before .before .before .before .before .before .before .before .before .before .before .before .before .before .before .before .before .before .before .before .before .before .before .before .before .before)) (c .before .before .before .before .before .before .before .before .before .before .before .before .before .before .before .before .before .before .before .before .before .before .before .before .before .before .before .before .before .before .before .before .before .pre .0) (c .before .before .before .before .before .before .before .before .before .before .before .before .before .before .before .before .before .before .before .before .before .before .before .before .before .before .open-table .result) (c .before .before .before .before .before .before .before .before .before .before .before .before .before .before .before .before .before .before .before .before .before .before .before .before .before .before .open-table .ensures) (c .before .before .before .before .before .before .before .before .before .before .before .before .before .before .before .before .before .before .before .before .before .before .before .before .before .before .before .before .before .before .before .before .before .args .pairs .now) (c .before .before .before .before .before .before .before .before .before .before .before .before .before .before .before .before .before .before .before .before .before .before .before .before .before .before .before .before .before .before .before .before .before .pre .3) (c .before .before .before .before .before .before .before .picked-from .result) k (j .0))
+    placed-read (c .before .before .before .before .before .before .before .before .before .before .before .before .before .before .before .before .before .before .before .before .before .before .before .before .before .before .before .before .before .before .before .args .w) (shape (c .before .before .before .before .before .before .before .before .before .before .before .before .before .before .before .before .before .before .before .before .before .before .before .before .before .before .before .before .before .before .before)) (c .before .before .before .before .before .before .before .before .before .before .before .before .before .before .before .before .before .before .before .before .before .before .before .before .before .before .before .before .before .before .before .pre .0) (c .before .before .before .before .before .before .before .picked-from .result) (j .0) (j .1) (j .2) (c .before .before .before .before .before .before .before .before .before .before .before .before .before .before .before .before .before .before .before .before .before .before .before .before .before .before .before .before .before .before .before .args .pairs .now) (c .before .before .before .before .before .before .before .before .before .before .before .before .before .before .before .before .before .before .before .before .before .before .before .before .open-table .result)
+    (λ k. place-open (c .before .before .before .before .before .before .before .before .before .before .before .before .before .before .before .before .before .before .before .before .before .before .before .before .before .before .before .before .before .before .before .args .w) (shape (c .before .before .before .before .before .before .before .before .before .before .before .before .before .before .before .before .before .before .before .before .before .before .before .before .before .before .before .before .before .before .before)) (c .before .before .before .before .before .before .before .before .before .before .before .before .before .before .before .before .before .before .before .before .before .before .before .before .before .before .before .before .before .before .before .pre .0) (c .before .before .before .before .before .before .before .before .before .before .before .before .before .before .before .before .before .before .before .before .before .before .before .before .open-table .result) (c .before .before .before .before .before .before .before .before .before .before .before .before .before .before .before .before .before .before .before .before .before .before .before .before .open-table .ensures) (c .before .before .before .before .before .before .before .before .before .before .before .before .before .before .before .before .before .before .before .before .before .before .before .before .before .before .before .before .before .before .before .args .pairs .now) (c .before .before .before .before .before .before .before .before .before .before .before .before .before .before .before .before .before .before .before .before .before .before .before .before .before .before .before .before .before .before .before .pre .3) (c .before .before .before .before .before .before .before .picked-from .result) k (j .0))
     (c .before .before .before .before .before .before .wide2 .result) (c .next-place .result .place) (c .next-place .result .destination) (c .before .before .before .before .before .before .wide2 .ensures .0) (c .next-place .ensures)
 
-entry-at : (c : tie.After-first-waiting) → c .first-waiting .result ≡ nextEntry (c .before .before .before .before .before .before .before .before .before .before .before .before .before .before .before .before .before .before .before .before .before .before .before .before .before .before .before .before .before .before .before .before .before .before .before .before .before .before .before .before .args .w) (c .before .before .before .before .before .before .before .before .before .before .before .before .before .before .picked-from .result)
+entry-at : (c : tie.After-first-waiting) → c .first-waiting .result ≡ nextEntry (c .before .before .before .before .before .before .before .before .before .before .before .before .before .before .before .before .before .before .before .before .before .before .before .before .before .before .before .before .before .before .before .before .before .before .before .before .before .before .args .w) (c .before .before .before .before .before .before .before .before .before .before .before .before .before .before .picked-from .result)
 entry-at c =
     let j = job-found (c .before .before .before .before .before .before .before .before .before .before .before .before .before .before) in
     let k = place-at (c .before .before .before .before .before .before .before) in
-    entry-read (c .before .before .before .before .before .before .before .before .before .before .before .before .before .before .before .before .before .before .before .before .before .before .before .before .before .before .before .before .before .before .before .before .before .before .before .before .before .before .before .before .args .w) (shape (c .before .before .before .before .before .before .before .before .before .before .before .before .before .before .before .before .before .before .before .before .before .before .before .before .before .before .before .before .before .before .before .before .before .before .before .before .before .before .before .before)) (c .before .before .before .before .before .before .before .before .before .before .before .before .before .before .before .before .before .before .before .before .before .before .before .before .before .before .before .before .before .before .before .before .before .before .before .before .before .before .before .before .pre .0) (c .before .before .before .before .before .before .before .before .before .before .before .before .before .before .picked-from .result) (j .0) (j .1) (j .2) (c .before .before .before .before .before .before .before .next-place .result .destination) (c .first-waiting .result) (k .1)
+    entry-read (c .before .before .before .before .before .before .before .before .before .before .before .before .before .before .before .before .before .before .before .before .before .before .before .before .before .before .before .before .before .before .before .before .before .before .before .before .before .before .args .w) (shape (c .before .before .before .before .before .before .before .before .before .before .before .before .before .before .before .before .before .before .before .before .before .before .before .before .before .before .before .before .before .before .before .before .before .before .before .before .before .before)) (c .before .before .before .before .before .before .before .before .before .before .before .before .before .before .before .before .before .before .before .before .before .before .before .before .before .before .before .before .before .before .before .before .before .before .before .before .before .before .pre .0) (c .before .before .before .before .before .before .before .before .before .before .before .before .before .before .picked-from .result) (j .0) (j .1) (j .2) (c .before .before .before .before .before .before .before .next-place .result .destination) (c .first-waiting .result) (k .1)
     (c .first-waiting .ensures
-    ∙ first-read (c .before .before .before .before .before .before .before .before .before .before .before .before .before .before .before .before .before .before .before .before .before .before .before .before .before .before .before .before .before .before .before .before .before .before .before .before .before .before .before .before .args .w) (shape (c .before .before .before .before .before .before .before .before .before .before .before .before .before .before .before .before .before .before .before .before .before .before .before .before .before .before .before .before .before .before .before .before .before .before .before .before .before .before .before .before)) (c .before .before .before .before .before .before .before .before .before .before .before .before .before .before .before .before .before .before .before .before .before .before .before .before .before .before .before .before .before .before .before .before .before .before .before .before .before .before .before .before .pre .0) (c .before .before .before .before .before .before .before .before .before .before .before .before .before .before .before .before .before .before .before .before .before .before .before .before .before .before .before .before .before .before .before .before .before .open-table .result) (c .before .before .before .before .before .before .before .before .before .before .before .before .before .before .before .before .before .before .before .before .before .before .before .before .before .before .before .before .before .before .before .before .before .open-table .ensures) (c .before .before .before .before .before .before .before .before .before .before .before .before .before .before .before .before .before .before .before .before .before .before .before .before .before .before .before .before .before .before .before .before .before .before .before .before .before .before .before .before .args .pairs .now) (c .before .before .before .before .before .before .before .before .before .before .before .before .before .before .before .before .before .before .before .before .before .before .before .before .before .before .before .before .before .before .before .before .before .before .before .before .before .before .before .before .pre .3) (c .before .before .before .before .before .before .before .before .before .before .before .before .before .before .picked-from .result) (c .before .before .before .before .before .before .before .next-place .result .destination)
-    (subst (λ d. anyTo (eligibleTo (c .before .before .before .before .before .before .before .before .before .before .before .before .before .before .before .before .before .before .before .before .before .before .before .before .before .before .before .before .before .before .before .before .before .before .before .before .before .before .before .before .args .w) (c .before .before .before .before .before .before .before .before .before .before .before .before .before .before .picked-from .result) d) 512 ≡ true) (sym (k .1)) (next-open (c .before .before .before .before .before .before .before .before .before .before .before .before .before .before .before .before .before .before .before .before .before .before .before .before .before .before .before .before .before .before .before .before .before .before .before .before .before .before .before .before .args .w) (shape (c .before .before .before .before .before .before .before .before .before .before .before .before .before .before .before .before .before .before .before .before .before .before .before .before .before .before .before .before .before .before .before .before .before .before .before .before .before .before .before .before)) (c .before .before .before .before .before .before .before .before .before .before .before .before .before .before .before .before .before .before .before .before .before .before .before .before .before .before .before .before .before .before .before .before .before .before .before .before .before .before .before .before .pre .0) (c .before .before .before .before .before .before .before .before .before .before .before .before .before .before .picked-from .result) (j .0) (j .1) (j .2))))
+    ∙ first-read (c .before .before .before .before .before .before .before .before .before .before .before .before .before .before .before .before .before .before .before .before .before .before .before .before .before .before .before .before .before .before .before .before .before .before .before .before .before .before .args .w) (shape (c .before .before .before .before .before .before .before .before .before .before .before .before .before .before .before .before .before .before .before .before .before .before .before .before .before .before .before .before .before .before .before .before .before .before .before .before .before .before)) (c .before .before .before .before .before .before .before .before .before .before .before .before .before .before .before .before .before .before .before .before .before .before .before .before .before .before .before .before .before .before .before .before .before .before .before .before .before .before .pre .0) (c .before .before .before .before .before .before .before .before .before .before .before .before .before .before .before .before .before .before .before .before .before .before .before .before .before .before .before .before .before .before .before .open-table .result) (c .before .before .before .before .before .before .before .before .before .before .before .before .before .before .before .before .before .before .before .before .before .before .before .before .before .before .before .before .before .before .before .open-table .ensures) (c .before .before .before .before .before .before .before .before .before .before .before .before .before .before .before .before .before .before .before .before .before .before .before .before .before .before .before .before .before .before .before .before .before .before .before .before .before .before .args .pairs .now) (c .before .before .before .before .before .before .before .before .before .before .before .before .before .before .before .before .before .before .before .before .before .before .before .before .before .before .before .before .before .before .before .before .before .before .before .before .before .before .pre .3) (c .before .before .before .before .before .before .before .before .before .before .before .before .before .before .picked-from .result) (c .before .before .before .before .before .before .before .next-place .result .destination)
+    (subst (λ d. anyTo (eligibleTo (c .before .before .before .before .before .before .before .before .before .before .before .before .before .before .before .before .before .before .before .before .before .before .before .before .before .before .before .before .before .before .before .before .before .before .before .before .before .before .args .w) (c .before .before .before .before .before .before .before .before .before .before .before .before .before .before .picked-from .result) d) 512 ≡ true) (sym (k .1)) (next-open (c .before .before .before .before .before .before .before .before .before .before .before .before .before .before .before .before .before .before .before .before .before .before .before .before .before .before .before .before .before .before .before .before .before .before .before .before .before .before .args .w) (shape (c .before .before .before .before .before .before .before .before .before .before .before .before .before .before .before .before .before .before .before .before .before .before .before .before .before .before .before .before .before .before .before .before .before .before .before .before .before .before)) (c .before .before .before .before .before .before .before .before .before .before .before .before .before .before .before .before .before .before .before .before .before .before .before .before .before .before .before .before .before .before .before .before .before .before .before .before .before .before .pre .0) (c .before .before .before .before .before .before .before .before .before .before .before .before .before .before .picked-from .result) (j .0) (j .1) (j .2))))
 
 open-table-requires : tie.Need-open-table-requires
 open-table-requires c κs = (c .before .before .before .before .before .before .pre .0) .setup
@@ -82,21 +82,18 @@ open-table-requires c κs = (c .before .before .before .before .before .before .
 left-waiting-requires : tie.Need-left-waiting-requires
 left-waiting-requires c κs = fits-left (c .before .before .before .before .before .before .before .before .before .before .before .before .args .w .jobs) (c .before .before .before .before .before .before .before .before .before .before .before .before .args .w .entries .kind) (c .before .before .before .before .before .before .before .before .before .before .before .before .args .w .entries .job) (adds-read (c .before .before .before .before .before .before .before .before .before .before .before .before .args .w) (shape (c .before .before .before .before .before .before .before .before .before .before .before .before)) (c .before .before .before .before .before .before .before .before .before .before .before .before .pre .0))
 
-ready-jobs-requires : tie.Need-ready-jobs-requires
-ready-jobs-requires c κs = tt
-
 next-transport-requires : tie.Need-next-transport-requires
-next-transport-requires c κs = let h = (c .before .before .before .before .before .before .before .before .before .before .before .before .before .before .before .before .before .pre .0) in (
+next-transport-requires c κs = let h = (c .before .before .before .before .before .before .before .before .before .before .before .before .before .before .before .pre .0) in (
   h .setup .transports .0,
   h .setup .transports .1,
   h .turn,
-  shape (c .before .before .before .before .before .before .before .before .before .before .before .before .before .before .before .before .before) .queues,
-  λ t l. (h .queues t l .count, shape (c .before .before .before .before .before .before .before .before .before .before .before .before .before .before .before .before .before) .queue t (lt-of-lt-of-le l (h .setup .transports .1))),
+  shape (c .before .before .before .before .before .before .before .before .before .before .before .before .before .before .before) .queues,
+  λ t l. (h .queues t l .count, shape (c .before .before .before .before .before .before .before .before .before .before .before .before .before .before .before) .queue t (lt-of-lt-of-le l (h .setup .transports .1))),
 )
 
 returns : tie.Need-returns
-returns c = nothing-chosen (c .before .before .before .before .before .before .before .before .before .before .before .before .before .before .before .before .before .before .before .before .args .w) (c .before .before .before .before .before .before .before .before .before .before .before .before .before .before .before .before .before .before .before .before .args .now)
-    (not-found (c .before .before .before .before .before .before .before .before .before .before .before .before .before .before .before .before .before .before .before .before .args .w) (shape (c .before .before .before .before .before .before .before .before .before .before .before .before .before .before .before .before .before .before .before .before)) (c .before .before .before .before .before .before .before .before .before .before .before .before .before .before .before .before .before .before .before .before .pre .0) (c .before .before .before .before .before .before .before .left-waiting .result) (c .before .before .before .before .before .ready-jobs .result) (tables (c .before .before .before .before .before))
+returns c = nothing-chosen (c .before .before .before .before .before .before .before .before .before .before .before .before .before .before .before .before .before .before .args .w) (c .before .before .before .before .before .before .before .before .before .before .before .before .before .before .before .before .before .before .args .now)
+    (not-found (c .before .before .before .before .before .before .before .before .before .before .before .before .before .before .before .before .before .before .args .w) (shape (c .before .before .before .before .before .before .before .before .before .before .before .before .before .before .before .before .before .before)) (c .before .before .before .before .before .before .before .before .before .before .before .before .before .before .before .before .before .before .pre .0) (c .before .before .before .before .before .left-waiting .result) (readyIn (c .before .before .before .before .before .before .before .before .before .before .before .before .before .before .before .before .before .before .args .pairs .now) (c .before .before .before .before .before .before .before .before .before .before .before .open-table .result)) (tables (c .before .before .before .before .before))
     (c .before .before .next-transport .result .found) (c .before .before .next-transport .result .transport) (c .before .before .next-transport .result .job) (c .before .before .next-transport .result .passed) (c .before .before .next-transport .ensures)
     (not-true (c .before .before .next-transport .result .found) (c .if1 .taken)))
 
@@ -107,22 +104,22 @@ mul-settings : tie.Need-mul-settings
 mul-settings c = index-fits (c .wide .result) 104 (c .wide .ensures .1) (lit≤ tt)
 
 element-copy-out-settings : tie.Need-element-copy-out-settings
-element-copy-out-settings c = same-below (c .wide .result) (c .before .before .before .next-transport .result .transport) 4 (c .wide .ensures .0) (lt-of-lt-of-le (turned (c .before) .transport .below) ((c .before .before .before .before .before .before .before .before .before .before .before .before .before .before .before .before .before .before .before .before .before .pre .0) .setup .transports .1))
+element-copy-out-settings c = same-below (c .wide .result) (c .before .before .before .next-transport .result .transport) 4 (c .wide .ensures .0) (lt-of-lt-of-le (turned (c .before) .transport .below) ((c .before .before .before .before .before .before .before .before .before .before .before .before .before .before .before .before .before .before .before .pre .0) .setup .transports .1))
 
 find-preemptor-requires : tie.Need-find-preemptor-requires
-find-preemptor-requires c κs = let h = (c .before .before .before .before .before .before .before .before .before .before .before .before .before .before .before .before .before .before .before .before .before .before .before .before .pre .0) in
+find-preemptor-requires c κs = let h = (c .before .before .before .before .before .before .before .before .before .before .before .before .before .before .before .before .before .before .before .before .before .before .pre .0) in
     let r = turned (c .before .before .before .before) in
-    let g = slots-read (getD (c .before .before .before .before .before .before .before .before .before .before .before .before .before .before .before .before .before .before .before .before .before .before .before .before .args .w .setup .settings) (c .before .before .before .wide .result) zeroSettings)
+    let g = slots-read (getD (c .before .before .before .before .before .before .before .before .before .before .before .before .before .before .before .before .before .before .before .before .before .before .args .w .setup .settings) (c .before .before .before .wide .result) zeroSettings)
     (subst (λ x. settingsInRange x ≡ true) (settings-at (c .before .before .before)) (h .setup .settings (c .before .before .before .before .before .before .next-transport .result .transport) (r .transport .below))) in (
-      (c .before .before .before .before .before .before .before .before .before .before .before .before .before .before .before .before .before .before .before .before .before .before .before .before .pre .2, h .arrivals .count, shape (c .before .before .before .before .before .before .before .before .before .before .before .before .before .before .before .before .before .before .before .before .before .before .before .before) .arrivals, arrived-read (c .before .before .before .before .before .before .before .before .before .before .before .before .before .before .before .before .before .before .before .before .before .before .before .before .args .w) (shape (c .before .before .before .before .before .before .before .before .before .before .before .before .before .before .before .before .before .before .before .before .before .before .before .before)) h (c .before .before .before .before .before .before .before .before .before .before .before .before .before .before .before .before .before .before .before .before .before .before .before .before .args .now) (c .before .before .before .before .before .before .before .before .before .before .before .before .before .before .before .before .before .before .before .before .before .before .before .before .pre .1)),
+      (c .before .before .before .before .before .before .before .before .before .before .before .before .before .before .before .before .before .before .before .before .before .before .pre .2, h .arrivals .count, shape (c .before .before .before .before .before .before .before .before .before .before .before .before .before .before .before .before .before .before .before .before .before .before) .arrivals, arrived-read (c .before .before .before .before .before .before .before .before .before .before .before .before .before .before .before .before .before .before .before .before .before .before .args .w) (shape (c .before .before .before .before .before .before .before .before .before .before .before .before .before .before .before .before .before .before .before .before .before .before)) h (c .before .before .before .before .before .before .before .before .before .before .before .before .before .before .before .before .before .before .before .before .before .before .args .now) (c .before .before .before .before .before .before .before .before .before .before .before .before .before .before .before .before .before .before .before .before .before .before .pre .1)),
       (
         r .is .below,
         g .0,
         g .1,
         g .2,
         g .3,
-        subst (λ x. x .cost * at (c .before .before .before .before .before .before .before .before .before .before .before .before .before .before .before .before .before .before .before .before .before .before .before .before .args .w .jobs .sold) (c .before .before .before .before .before .before .next-transport .result .job) ≤ 256) (settings-at (c .before .before .before))
-            (sold-read (c .before .before .before .before .before .before .before .before .before .before .before .before .before .before .before .before .before .before .before .before .before .before .before .before .args .w) (shape (c .before .before .before .before .before .before .before .before .before .before .before .before .before .before .before .before .before .before .before .before .before .before .before .before)) h (c .before .before .before .before .before .before .next-transport .result .transport) (c .before .before .before .before .before .before .next-transport .result .job) (r .is)),
+        subst (λ x. x .cost * at (c .before .before .before .before .before .before .before .before .before .before .before .before .before .before .before .before .before .before .before .before .before .before .args .w .jobs .sold) (c .before .before .before .before .before .before .next-transport .result .job) ≤ 256) (settings-at (c .before .before .before))
+            (sold-read (c .before .before .before .before .before .before .before .before .before .before .before .before .before .before .before .before .before .before .before .before .before .before .args .w) (shape (c .before .before .before .before .before .before .before .before .before .before .before .before .before .before .before .before .before .before .before .before .before .before)) h (c .before .before .before .before .before .before .next-transport .result .transport) (c .before .before .before .before .before .before .next-transport .result .job) (r .is)),
       ),
     )
 
@@ -140,10 +137,10 @@ element-copy-out-start c = from-below (c .before)
 
 next-place-requires : tie.Need-next-place-requires
 next-place-requires c κs = let j = job-found (c .before .before .before .before .before .before) in
-    let s = (c .before .before .before .before .before .before .before .before .before .before .before .before .before .before .before .before .before .before .before .before .before .before .before .before .before .before .before .before .before .before .before .before .pre .0) .jobs (c .before .before .before .before .before .before .picked-from .result) (j .0) (j .1) in (
+    let s = (c .before .before .before .before .before .before .before .before .before .before .before .before .before .before .before .before .before .before .before .before .before .before .before .before .before .before .before .before .before .before .pre .0) .jobs (c .before .before .before .before .before .before .picked-from .result) (j .0) (j .1) in (
       j .0,
-      subst (λ x. at (c .before .before .before .before .before .before .before .before .before .before .before .before .before .before .before .before .before .before .before .before .before .before .before .before .before .before .before .before .before .before .before .before .args .w .jobs .places) x ≤ 32) (sym (c .before .before .before .before .before .wide2 .ensures .0)) (s .places),
-      subst (λ x. at (c .before .before .before .before .before .before .before .before .before .before .before .before .before .before .before .before .before .before .before .before .before .before .before .before .before .before .before .before .before .before .before .before .args .w .jobs .turn) x ≤ at (c .before .before .before .before .before .before .before .before .before .before .before .before .before .before .before .before .before .before .before .before .before .before .before .before .before .before .before .before .before .before .before .before .args .w .jobs .places) x) (sym (c .before .before .before .before .before .wide2 .ensures .0)) (s .turn),
+      subst (λ x. at (c .before .before .before .before .before .before .before .before .before .before .before .before .before .before .before .before .before .before .before .before .before .before .before .before .before .before .before .before .before .before .args .w .jobs .places) x ≤ 32) (sym (c .before .before .before .before .before .wide2 .ensures .0)) (s .places),
+      subst (λ x. at (c .before .before .before .before .before .before .before .before .before .before .before .before .before .before .before .before .before .before .before .before .before .before .before .before .before .before .before .before .before .before .args .w .jobs .turn) x ≤ at (c .before .before .before .before .before .before .before .before .before .before .before .before .before .before .before .before .before .before .before .before .before .before .before .before .before .before .before .before .before .before .args .w .jobs .places) x) (sym (c .before .before .before .before .before .wide2 .ensures .0)) (s .turn),
     )
 
 first-waiting-requires : tie.Need-first-waiting-requires
@@ -152,7 +149,7 @@ first-waiting-requires c κs = tt
 returns-2 : tie.Need-returns-2
 returns-2 c = let r = turned (c .before .before .before .before .before .before .before .before .before .before .before .before .before .before .before .before .before .before .before .before) in
     let p = preempted (c .before .before .before .before .before .before .before .before .before .before .before .before .before .before .before) in
-    all-chosen (c .before .before .before .before .before .before .before .before .before .before .before .before .before .before .before .before .before .before .before .before .before .before .before .before .before .before .before .before .before .before .before .before .before .before .before .before .before .before .before .before .args .w) (c .before .before .before .before .before .before .before .before .before .before .before .before .before .before .before .before .before .before .before .before .before .before .before .before .before .before .before .before .before .before .before .before .before .before .before .before .before .before .before .before .args .now) (c .before .before .before .before .before .before .before .before .before .before .before .before .before .before .before .before .before .before .before .before .before .before .next-transport .result .transport) (c .before .before .before .before .before .before .before .before .before .before .before .before .before .before .before .before .before .before .before .before .before .before .next-transport .result .job) (c .before .before .before .before .before .before .before .before .before .before .before .before .before .before .before .before .before .before .before .before .before .before .next-transport .result .passed)
+    all-chosen (c .before .before .before .before .before .before .before .before .before .before .before .before .before .before .before .before .before .before .before .before .before .before .before .before .before .before .before .before .before .before .before .before .before .before .before .before .before .before .args .w) (c .before .before .before .before .before .before .before .before .before .before .before .before .before .before .before .before .before .before .before .before .before .before .before .before .before .before .before .before .before .before .before .before .before .before .before .before .before .before .args .now) (c .before .before .before .before .before .before .before .before .before .before .before .before .before .before .before .before .before .before .before .before .before .before .next-transport .result .transport) (c .before .before .before .before .before .before .before .before .before .before .before .before .before .before .before .before .before .before .before .before .before .before .next-transport .result .job) (c .before .before .before .before .before .before .before .before .before .before .before .before .before .before .before .before .before .before .before .before .before .before .next-transport .result .passed)
     (c .before .before .before .before .before .before .before .before .before .before .before .before .before .before .before .find-preemptor .result .link) (c .before .before .before .before .before .before .before .before .before .before .before .before .before .before .before .find-preemptor .result .waiting) (c .before .before .before .before .before .before .before .before .before .before .before .before .before .before .picked-from .result) (c .before .before .before .before .before .before .before .next-place .result .place) (c .first-waiting .result)
     (r .finds) (r .on) (r .current) (r .ahead) (p .0) (p .1) (c .before .before .before .before .before .before .before .before .before .before .before .before .before .before .picked-from .ensures) (place-at (c .before .before .before .before .before .before .before) .0) (entry-at c)
 
@@ -162,7 +159,6 @@ choose-spec =
     (tie.spec
     open-table-requires
     left-waiting-requires
-    ready-jobs-requires
     next-transport-requires
     returns
     wide-requires

@@ -13,6 +13,7 @@ use Rattle.rules.specs.declared.State.{State}
 use Rattle.rules.specs.State.{at, settingsOf}
 use Rattle.rules.specs.Preemption.{credit, hasCredit, owned, bestCandidate, paysFor}
 use Rattle.rules.proofs.Preemptor.{credit-owned}
+use Rattle.choice.specs.Columns.{readyIn}
 use Rattle.choice.specs.Facts.{Reads}
 use Rattle.choice.proofs.Credits.{link-suc, index-fits, same-below, positive, sum-fits, less-by, le-by, rest-small}
 use Rattle.choice.proofs.Preempts.{preempts-off, preempts-broke, preempts-short, preempts-none, preempts-unpaid, preempts-some, most-read}
@@ -44,11 +45,11 @@ slots-small c =
     rest-small (c .owned-slots .result) (at (s .t1 .picked) (s .y)) (s .g .cost * at (s .t1 .sold) (s .y)) (c .before .before .before .before .before .before .before .before .before .before .wide16 .result) (c .owned-slots .ensures ∙ ap owned z ∙ o) e (c .before .before .before .before .before .before .before .before .before .before .wide16 .ensures .1)
 
 best-read : (c : tie.After-best-candidate) (s : State) → s .jobs ≡ c .before .before .before .before .before .before .before .before .before .before .before .before .before .before .before .before .before .args .t1 → s .arrivals ≡ c .before .before .before .before .before .before .before .before .before .before .before .before .before .before .before .before .before .args .arrivals → settingsOf s (c .before .before .before .before .before .before .before .before .before .before .before .before .before .before .before .before .before .args .t) ≡ c .before .before .before .before .before .before .before .before .before .before .before .before .before .before .before .before .before .args .g
-    → Reads s (c .before .before .before .before .before .before .before .before .before .before .before .before .before .before .before .before .before .args .waits .now) (c .before .before .before .before .before .before .before .before .before .before .before .before .before .before .before .before .before .args .ready .now) → c .best-candidate .result ≡ bestCandidate s (c .before .before .before .before .before .before .before .before .before .before .before .before .before .before .before .before .before .args .time) (c .before .before .before .before .before .before .before .before .before .before .before .before .before .before .before .before .before .args .t) (c .before .before .before .before .before .before .before .before .before .before .before .before .before .before .before .before .before .args .y)
+    → Reads s (c .before .before .before .before .before .before .before .before .before .before .before .before .before .before .before .before .before .args .waits .now) (readyIn (c .before .before .before .before .before .before .before .before .before .before .before .before .before .before .before .before .before .args .pairs .now) (c .before .before .before .before .before .before .before .before .before .before .before .before .before .before .before .before .before .args .room .now)) → c .best-candidate .result ≡ bestCandidate s (c .before .before .before .before .before .before .before .before .before .before .before .before .before .before .before .before .before .args .time) (c .before .before .before .before .before .before .before .before .before .before .before .before .before .before .before .before .before .args .t) (c .before .before .before .before .before .before .before .before .before .before .before .before .before .before .before .before .before .args .y)
 best-read c s j a g r =
     let x = c .before .before .before .before .before .before .before .before .before .before .before .before .before .before .before .before .before .args in
     c .best-candidate .ensures .1 s j a r
-    (most-read s (x .t1) (x .g) (x .waits .now) (x .ready .now) (x .time) (x .t) (x .y) j g r (toZ w64 (ofZ w64 (c .before .before .before .before .before .before .before .before .before .before .slot-credit .result))) (z-is (c .before .before .before .before .before .before .before .before .before .before))
+    (most-read s (x .t1) (x .g) (x .waits .now) (readyIn (x .pairs .now) (x .room .now)) (x .time) (x .t) (x .y) j g r (toZ w64 (ofZ w64 (c .before .before .before .before .before .before .before .before .before .before .slot-credit .result))) (z-is (c .before .before .before .before .before .before .before .before .before .before))
     (c .before .wide164 .result) (c .before .before .before .owned-slots .result) (c .before .wide164 .ensures .0 ∙ ap (at (x .waits .now)) (c .before .before .before .before .before .before .before .before .before .before .before .before .before .before .before .wide .ensures .0)) (lt-of-lt-of-le (c .before .before .before .before .before .before .before .before .before .before .before .before .before .before .before .before .before .pre .1 .0) (lit≤ tt)) (c .before .before .before .owned-slots .ensures))
 
 -- the link's job, as the code reads it
@@ -60,7 +61,7 @@ pays-read : (c : tie.After-pays-for)
 pays-read c = c .pays-for .ensures ∙ ap₂ (paysFor (c .before .before .before .before .before .before .before .before .before .before .before .before .before .before .before .before .before .before .before .before .before .before .args .g)) (c .before .before .before .before .before .before .before .before .owned-slots .ensures) (c .before .wide165 .ensures .0)
 
 returns : tie.Need-returns
-returns c = (zero≤, λ s j a g r. preempts-off s (c .before .args .t1) (c .before .args .g) (c .before .args .waits .now) (c .before .args .ready .now) (c .before .args .time) (c .before .args .t) (c .before .args .y) j g r (c .if1 .taken))
+returns c = (zero≤, λ s j a g r. preempts-off s (c .before .args .t1) (c .before .args .g) (c .before .args .waits .now) (readyIn (c .before .args .pairs .now) (c .before .args .room .now)) (c .before .args .time) (c .before .args .t) (c .before .args .y) j g r (c .if1 .taken))
 
 wide-requires : tie.Need-wide-requires
 wide-requires c κs = tt
@@ -93,7 +94,7 @@ has-credit-requires c κs = tt
 returns-2 : tie.Need-returns-2
 returns-2 c = (
   zero≤,
-  λ s j a g r. preempts-broke s (c .before .before .before .before .before .before .before .before .before .args .t1) (c .before .before .before .before .before .before .before .before .before .args .g) (c .before .before .before .before .before .before .before .before .before .args .waits .now) (c .before .before .before .before .before .before .before .before .before .args .ready .now) (c .before .before .before .before .before .before .before .before .before .args .time) (c .before .before .before .before .before .before .before .before .before .args .t) (c .before .before .before .before .before .before .before .before .before .args .y) j g r
+  λ s j a g r. preempts-broke s (c .before .before .before .before .before .before .before .before .before .args .t1) (c .before .before .before .before .before .before .before .before .before .args .g) (c .before .before .before .before .before .before .before .before .before .args .waits .now) (readyIn (c .before .before .before .before .before .before .before .before .before .args .pairs .now) (c .before .before .before .before .before .before .before .before .before .args .room .now)) (c .before .before .before .before .before .before .before .before .before .args .time) (c .before .before .before .before .before .before .before .before .before .args .t) (c .before .before .before .before .before .before .before .before .before .args .y) j g r
       _ (z-is (c .before .before)) (sym (c .before .has-credit .ensures) ∙ not-true (c .before .has-credit .result) (c .if2 .taken)),
 )
 
@@ -112,7 +113,7 @@ mul-if3 c = record { fits = lt-of-le-of-lt (mul-le-mul (c .before .before .befor
 returns-3 : tie.Need-returns-3
 returns-3 c = let e : c .before .before .wide163 .result ≡ at (c .before .before .before .before .before .before .before .before .before .before .before .before .before .args .t1 .n) (c .before .before .before .before .before .before .before .before .before .before .before .before .before .args .y) = c .before .before .wide163 .ensures .0 ∙ ap (at (c .before .before .before .before .before .before .before .before .before .before .before .before .before .args .t1 .n)) (c .before .before .before .before .before .before .before .before .before .before .before .wide .ensures .0) in (
   zero≤,
-  λ s j a g r. preempts-short s (c .before .before .before .before .before .before .before .before .before .before .before .before .before .args .t1) (c .before .before .before .before .before .before .before .before .before .before .before .before .before .args .g) (c .before .before .before .before .before .before .before .before .before .before .before .before .before .args .waits .now) (c .before .before .before .before .before .before .before .before .before .before .before .before .before .args .ready .now) (c .before .before .before .before .before .before .before .before .before .before .before .before .before .args .time) (c .before .before .before .before .before .before .before .before .before .before .before .before .before .args .t) (c .before .before .before .before .before .before .before .before .before .before .before .before .before .args .y) j g r
+  λ s j a g r. preempts-short s (c .before .before .before .before .before .before .before .before .before .before .before .before .before .args .t1) (c .before .before .before .before .before .before .before .before .before .before .before .before .before .args .g) (c .before .before .before .before .before .before .before .before .before .before .before .before .before .args .waits .now) (readyIn (c .before .before .before .before .before .before .before .before .before .before .before .before .before .args .pairs .now) (c .before .before .before .before .before .before .before .before .before .before .before .before .before .args .room .now)) (c .before .before .before .before .before .before .before .before .before .before .before .before .before .args .time) (c .before .before .before .before .before .before .before .before .before .before .before .before .before .args .t) (c .before .before .before .before .before .before .before .before .before .before .before .before .before .args .y) j g r
       (less-by _ _ _ e (c .if3 .taken)),
 )
 
@@ -138,7 +139,7 @@ best-candidate-requires : tie.Need-best-candidate-requires
 best-candidate-requires c κs = c .before .before .before .before .before .before .before .before .before .before .before .before .before .before .before .before .pre .0
 
 returns-4 : tie.Need-returns-4
-returns-4 c = (zero≤, λ s j a g r. preempts-none s (c .before .before .before .before .before .before .before .before .before .before .before .before .before .before .before .before .before .before .args .t1) (c .before .before .before .before .before .before .before .before .before .before .before .before .before .before .before .before .before .before .args .g) (c .before .before .before .before .before .before .before .before .before .before .before .before .before .before .before .before .before .before .args .waits .now) (c .before .before .before .before .before .before .before .before .before .before .before .before .before .before .before .before .before .before .args .ready .now) (c .before .before .before .before .before .before .before .before .before .before .before .before .before .before .before .before .before .before .args .time) (c .before .before .before .before .before .before .before .before .before .before .before .before .before .before .before .before .before .before .args .t) (c .before .before .before .before .before .before .before .before .before .before .before .before .before .before .before .before .before .before .args .y) j g r (c .before .best-candidate .result) (best-read (c .before) s j a g r) (c .if4 .taken))
+returns-4 c = (zero≤, λ s j a g r. preempts-none s (c .before .before .before .before .before .before .before .before .before .before .before .before .before .before .before .before .before .before .args .t1) (c .before .before .before .before .before .before .before .before .before .before .before .before .before .before .before .before .before .before .args .g) (c .before .before .before .before .before .before .before .before .before .before .before .before .before .before .before .before .before .before .args .waits .now) (readyIn (c .before .before .before .before .before .before .before .before .before .before .before .before .before .before .before .before .before .before .args .pairs .now) (c .before .before .before .before .before .before .before .before .before .before .before .before .before .before .before .before .before .before .args .room .now)) (c .before .before .before .before .before .before .before .before .before .before .before .before .before .before .before .before .before .before .args .time) (c .before .before .before .before .before .before .before .before .before .before .before .before .before .before .before .before .before .before .args .t) (c .before .before .before .before .before .before .before .before .before .before .before .before .before .before .before .before .before .before .args .y) j g r (c .before .best-candidate .result) (best-read (c .before) s j a g r) (c .if4 .taken))
 
 sub-wide : tie.Need-sub-wide
 sub-wide c = positive (c .before .best-candidate .result) (c .if4 .left)
@@ -161,14 +162,14 @@ pays-for-requires c κs = (positive (c .before .before .before .before .before .
 returns-5 : tie.Need-returns-5
 returns-5 c = (
   zero≤,
-  λ s j a g r. preempts-unpaid s (c .before .before .before .before .before .before .before .before .before .before .before .before .before .before .before .before .before .before .before .before .before .before .before .args .t1) (c .before .before .before .before .before .before .before .before .before .before .before .before .before .before .before .before .before .before .before .before .before .before .before .args .g) (c .before .before .before .before .before .before .before .before .before .before .before .before .before .before .before .before .before .before .before .before .before .before .before .args .waits .now) (c .before .before .before .before .before .before .before .before .before .before .before .before .before .before .before .before .before .before .before .before .before .before .before .args .ready .now) (c .before .before .before .before .before .before .before .before .before .before .before .before .before .before .before .before .before .before .before .before .before .before .before .args .time) (c .before .before .before .before .before .before .before .before .before .before .before .before .before .before .before .before .before .before .before .before .before .before .before .args .t) (c .before .before .before .before .before .before .before .before .before .before .before .before .before .before .before .before .before .before .before .before .before .before .before .args .y) j g r _ (z-is (c .before .before .before .before .before .before .before .before .before .before .before .before .before .before .before .before)) (c .before .before .before .before .before .before .best-candidate .result) (c .before .before .before .before .wide2 .result) (best-read (c .before .before .before .before .before .before) s j a g r) (link-read (c .before .before .before .before)) (c .before .before .before .before .wide2 .ensures .1)
+  λ s j a g r. preempts-unpaid s (c .before .before .before .before .before .before .before .before .before .before .before .before .before .before .before .before .before .before .before .before .before .before .before .args .t1) (c .before .before .before .before .before .before .before .before .before .before .before .before .before .before .before .before .before .before .before .before .before .before .before .args .g) (c .before .before .before .before .before .before .before .before .before .before .before .before .before .before .before .before .before .before .before .before .before .before .before .args .waits .now) (readyIn (c .before .before .before .before .before .before .before .before .before .before .before .before .before .before .before .before .before .before .before .before .before .before .before .args .pairs .now) (c .before .before .before .before .before .before .before .before .before .before .before .before .before .before .before .before .before .before .before .before .before .before .before .args .room .now)) (c .before .before .before .before .before .before .before .before .before .before .before .before .before .before .before .before .before .before .before .before .before .before .before .args .time) (c .before .before .before .before .before .before .before .before .before .before .before .before .before .before .before .before .before .before .before .before .before .before .before .args .t) (c .before .before .before .before .before .before .before .before .before .before .before .before .before .before .before .before .before .before .before .before .before .before .before .args .y) j g r _ (z-is (c .before .before .before .before .before .before .before .before .before .before .before .before .before .before .before .before)) (c .before .before .before .before .before .before .best-candidate .result) (c .before .before .before .before .wide2 .result) (best-read (c .before .before .before .before .before .before) s j a g r) (link-read (c .before .before .before .before)) (c .before .before .before .before .wide2 .ensures .1)
       (sym (pays-read (c .before)) ∙ not-true (c .before .pays-for .result) (c .if5 .taken)),
 )
 
 returns-6 : tie.Need-returns-6
 returns-6 c = (
   c .before .before .before .before .before .before .best-candidate .ensures .0,
-  λ s j a g r. preempts-some s (c .before .before .before .before .before .before .before .before .before .before .before .before .before .before .before .before .before .before .before .before .before .before .before .args .t1) (c .before .before .before .before .before .before .before .before .before .before .before .before .before .before .before .before .before .before .before .before .before .before .before .args .g) (c .before .before .before .before .before .before .before .before .before .before .before .before .before .before .before .before .before .before .before .before .before .before .before .args .waits .now) (c .before .before .before .before .before .before .before .before .before .before .before .before .before .before .before .before .before .before .before .before .before .before .before .args .ready .now) (c .before .before .before .before .before .before .before .before .before .before .before .before .before .before .before .before .before .before .before .before .before .before .before .args .time) (c .before .before .before .before .before .before .before .before .before .before .before .before .before .before .before .before .before .before .before .before .before .before .before .args .t) (c .before .before .before .before .before .before .before .before .before .before .before .before .before .before .before .before .before .before .before .before .before .before .before .args .y) j g r (c .before .before .before .before .before .before .before .before .before .before .before .before .before .before .before .before .before .before .before .before .before .before .if1 .left) _ (z-is (c .before .before .before .before .before .before .before .before .before .before .before .before .before .before .before .before)) (has-it (c .before .before .before .before .before .before .before .before .before .before))
+  λ s j a g r. preempts-some s (c .before .before .before .before .before .before .before .before .before .before .before .before .before .before .before .before .before .before .before .before .before .before .before .args .t1) (c .before .before .before .before .before .before .before .before .before .before .before .before .before .before .before .before .before .before .before .before .before .before .before .args .g) (c .before .before .before .before .before .before .before .before .before .before .before .before .before .before .before .before .before .before .before .before .before .before .before .args .waits .now) (readyIn (c .before .before .before .before .before .before .before .before .before .before .before .before .before .before .before .before .before .before .before .before .before .before .before .args .pairs .now) (c .before .before .before .before .before .before .before .before .before .before .before .before .before .before .before .before .before .before .before .before .before .before .before .args .room .now)) (c .before .before .before .before .before .before .before .before .before .before .before .before .before .before .before .before .before .before .before .before .before .before .before .args .time) (c .before .before .before .before .before .before .before .before .before .before .before .before .before .before .before .before .before .before .before .before .before .before .before .args .t) (c .before .before .before .before .before .before .before .before .before .before .before .before .before .before .before .before .before .before .before .before .before .before .before .args .y) j g r (c .before .before .before .before .before .before .before .before .before .before .before .before .before .before .before .before .before .before .before .before .before .before .if1 .left) _ (z-is (c .before .before .before .before .before .before .before .before .before .before .before .before .before .before .before .before)) (has-it (c .before .before .before .before .before .before .before .before .before .before))
       (let e : c .before .before .before .before .before .before .before .before .before .before .before .before .wide163 .result ≡ at (c .before .before .before .before .before .before .before .before .before .before .before .before .before .before .before .before .before .before .before .before .before .before .before .args .t1 .n) (c .before .before .before .before .before .before .before .before .before .before .before .before .before .before .before .before .before .before .before .before .before .before .before .args .y) = c .before .before .before .before .before .before .before .before .before .before .before .before .wide163 .ensures .0 ∙ ap (at (c .before .before .before .before .before .before .before .before .before .before .before .before .before .before .before .before .before .before .before .before .before .before .before .args .t1 .n)) (c .before .before .before .before .before .before .before .before .before .before .before .before .before .before .before .before .before .before .before .before .before .wide .ensures .0) in le-by _ _ _ e (c .before .before .before .before .before .before .before .before .before .before .if3 .left))
       (c .before .before .before .before .before .before .best-candidate .result) (c .before .before .before .before .wide2 .result) (best-read (c .before .before .before .before .before .before) s j a g r) (link-read (c .before .before .before .before)) (c .before .before .before .before .wide2 .ensures .1)
       (sym (pays-read (c .before)) ∙ not-false (c .before .pays-for .result) (c .if5 .left)),

@@ -12,15 +12,16 @@ use borrow.Author.Tests.{lt-ltb, le-ltb}
 use Rattle.laws.specs.Range.{countTo}
 use Rattle.laws.proofs.Count.{count-hit, count-miss, count-le-bound}
 use Rattle.rules.specs.State.{at}
+use Rattle.choice.specs.Columns.{readyIn}
 use Rattle.choice.proofs.Fronts.{front-found, front-ahead, front-none}
 use Rattle.choice.proofs.turns.find_front.Statement.{statement}
 use Rattle.choice.proofs.turns.find_front.Tie as tie
 
 abbrev Inv-loop : tie.InvT-loop
-Inv-loop jobs count waits ready n passed₀ i₀ passed i = (i ≤ n) × (n ≡ count) × (passed ≡ countTo (λ k. ltb 0 (at waits (at jobs k))) i) × ((k : ℕ) → k < i → getD ready (at jobs k) false ≡ false)
+Inv-loop jobs count waits pairs room n passed₀ i₀ passed i = (i ≤ n) × (n ≡ count) × (passed ≡ countTo (λ k. ltb 0 (at waits (at jobs k))) i) × ((k : ℕ) → k < i → getD (readyIn pairs room) (at jobs k) false ≡ false)
 
 abbrev μ-loop : tie.MeasureT-loop
-μ-loop jobs count waits ready n passed₀ i₀ passed i = n - i
+μ-loop jobs count waits pairs room n passed₀ i₀ passed i = n - i
 
 loop-holds : tie.Need-loop-holds Inv-loop μ-loop
 unfolding countTo
@@ -32,14 +33,14 @@ element-copy-out-job c = omega (arith, c .loop-test .taken, c .before .before .p
 wide-requires : tie.Need-wide-requires Inv-loop μ-loop
 wide-requires c κs = tt
 
-element-copy-out-if1 : tie.Need-element-copy-out-if1 Inv-loop μ-loop
-element-copy-out-if1 c = c .wide .ensures .1
+is-ready-requires : tie.Need-is-ready-requires Inv-loop μ-loop
+is-ready-requires c κs = tt
 
 returns : tie.Need-returns Inv-loop μ-loop
 returns c = let jobs = c .before .before .before .before .before .before .args .jobs .now in
-    let ready = c .before .before .before .before .before .before .args .ready .now in
+    let ready = readyIn (c .before .before .before .before .before .before .args .pairs .now) (c .before .before .before .before .before .before .args .room .now) in
     let waits = c .before .before .before .before .before .before .args .waits .now in
-    let hit : getD ready (at jobs (c .before .before .before .before .before .loop .i)) false ≡ true = ap (λ z. getD ready z false) (sym (c .before .before .wide .ensures .0)) ∙ c .if1 .taken in (
+    let hit : getD ready (at jobs (c .before .before .before .before .before .loop .i)) false ≡ true = ap (λ z. getD ready z false) (sym (c .before .before .wide .ensures .0)) ∙ sym (c .before .is-ready .ensures) ∙ c .if1 .taken in (
       front-found ready waits jobs (c .before .before .before .before .before .before .args .count) (c .before .before .before .before .before .before .pre .1) (c .before .before .before .before .before .before .pre .0) (c .before .before .before .before .before .loop .i) (c .before .before .before .before .loop-test .taken) hit (c .before .before .before .before .before .loop .inv .3),
       λ below. c .before .before .before .before .before .loop .inv .2 ∙ front-ahead ready waits jobs (c .before .before .before .before .before .before .args .count) (c .before .before .before .before .before .before .pre .1) (c .before .before .before .before .before .before .pre .0) (c .before .before .before .before .before .loop .i) (c .before .before .before .before .loop-test .taken) hit (c .before .before .before .before .before .loop .inv .3),
     )
@@ -61,10 +62,10 @@ loop-less c = omega (arith, c .before .before .before .before .before .before .l
 
 loop-again : tie.Need-loop-again Inv-loop μ-loop
 loop-again c = let jobs = c .before .before .before .before .before .before .before .before .args .jobs .now in
-    let ready = c .before .before .before .before .before .before .before .before .args .ready .now in
+    let ready = readyIn (c .before .before .before .before .before .before .before .before .args .pairs .now) (c .before .before .before .before .before .before .before .before .args .room .now) in
     let waits = c .before .before .before .before .before .before .before .before .args .waits .now in
     let p : ℕ → Bool = λ k. ltb 0 (at waits (at jobs k)) in
-    let miss : getD ready (at jobs (c .before .before .before .before .before .before .before .loop .i)) false ≡ false = ap (λ z. getD ready z false) (sym (c .before .before .before .before .wide .ensures .0)) ∙ c .before .before .if1 .left in
+    let miss : getD ready (at jobs (c .before .before .before .before .before .before .before .loop .i)) false ≡ false = ap (λ z. getD ready z false) (sym (c .before .before .before .before .wide .ensures .0)) ∙ sym (c .before .before .before .is-ready .ensures) ∙ c .before .before .if1 .left in
     let here : at waits (c .before .before .before .before .wide .result) ≡ at waits (at jobs (c .before .before .before .before .before .before .before .loop .i)) = ap (at waits) (c .before .before .before .before .wide .ensures .0) in (
       omega (arith, c .before .before .before .before .before .before .loop-test .taken),
       refl,
@@ -77,7 +78,7 @@ loop-again c = let jobs = c .before .before .before .before .before .before .bef
 
 returns-2 : tie.Need-returns-2 Inv-loop μ-loop
 returns-2 c = (
-  front-none (c .before .before .args .ready .now) (c .before .before .args .waits .now) (c .before .before .args .jobs .now) (c .before .before .args .count) (c .before .before .pre .1) (c .before .before .pre .0)
+  front-none (readyIn (c .before .before .args .pairs .now) (c .before .before .args .room .now)) (c .before .before .args .waits .now) (c .before .before .args .jobs .now) (c .before .before .args .count) (c .before .before .pre .1) (c .before .before .pre .0)
       (λ k l. c .before .loop .inv .3 k (omega (arith, c .loop-test .left, l))),
   λ below. absurd (omega arith),
 )
@@ -91,7 +92,7 @@ find-front-spec =
     loop-holds
     element-copy-out-job
     wide-requires
-    element-copy-out-if1
+    is-ready-requires
     returns
     mul-if2
     element-copy-out-if2

@@ -11,16 +11,17 @@ use borrow.Author.Count.{below-more}
 use borrow.Author.Tests.{lt-ltb, le-ltb}
 use Rattle.laws.proofs.Choice.{true-not-false}
 use Rattle.rules.specs.State.{zeroList, listOf}
+use Rattle.choice.specs.Columns.{readyIn}
 use Rattle.choice.specs.Facts.{frontOf, aheadOf, hasFront, frontSteps}
 use Rattle.choice.proofs.Fronts.{getD-default, steps-at, steps-none}
 use Rattle.choice.proofs.turns.next_transport.Statement.{statement}
 use Rattle.choice.proofs.turns.next_transport.Tie as tie
 
 abbrev Inv-loop : tie.InvT-loop
-Inv-loop transports start waits ready queues n from i₀ i = (i ≤ n) × ((k : ℕ) → k < i → hasFront ready queues ((start + k) % transports) ≡ false)
+Inv-loop transports start waits pairs room queues n from i₀ i = (i ≤ n) × ((k : ℕ) → k < i → hasFront (readyIn pairs room) queues ((start + k) % transports) ≡ false)
 
 abbrev μ-loop : tie.MeasureT-loop
-μ-loop transports start waits ready queues n from i₀ i = n - i
+μ-loop transports start waits pairs room queues n from i₀ i = n - i
 
 -- the transport of a step
 turn-below : (c : tie.In-loop Inv-loop μ-loop) → (c .before .before .args .start + c .before .loop .i) % c .before .before .args .transports < c .before .before .args .transports
@@ -36,11 +37,11 @@ same-list c =
 
 front-is : (c : tie.After-find-front Inv-loop μ-loop)
     → c .find-front .result .job
-    ≡ frontOf (c .before .before .before .before .before .before .args .ready .now)
+    ≡ frontOf (readyIn (c .before .before .before .before .before .before .args .pairs .now) (c .before .before .before .before .before .before .args .room .now))
     (listOf (getD (c .before .before .before .before .before .before .args .t1) ((c .before .before .before .before .before .before .args .start + c .before .before .before .before .before .loop .i) % c .before .before .before .before .before .before .args .transports) zeroList))
 front-is c =
     c .find-front .ensures .0
-    ∙ ap (λ q. frontOf (c .before .before .before .before .before .before .args .ready .now) (listOf q)) (same-list (c .before .before .before .before))
+    ∙ ap (λ q. frontOf (readyIn (c .before .before .before .before .before .before .args .pairs .now) (c .before .before .before .before .before .before .args .room .now)) (listOf q)) (same-list (c .before .before .before .before))
 
 loop-holds : tie.Need-loop-holds Inv-loop μ-loop
 loop-holds c = (omega arith, λ k l. absurd (not-suc-le-zero l))
@@ -60,13 +61,13 @@ array-copy-out-q c = omega (arith, turn-below c, c .before .before .pre .1)
 find-front-requires : tie.Need-find-front-requires Inv-loop μ-loop
 find-front-requires c κs = rw (same-list (c .before .before .before)) (c .before .before .before .before .before .pre .4 _ (turn-below (c .before .before .before)))
 
-cast-t20 : tie.Need-cast-t20 Inv-loop μ-loop
-cast-t20 c = omega (arith, turn-below (c .before .before .before .before .before .before), c .before .before .before .before .before .before .before .before .pre .1)
+cast-t21 : tie.Need-cast-t21 Inv-loop μ-loop
+cast-t21 c = omega (arith, turn-below (c .before .before .before .before .before .before), c .before .before .before .before .before .before .before .before .pre .1)
 
 returns : tie.Need-returns Inv-loop μ-loop
 unfolding frontSteps hasFront
 returns c = let e =
-    steps-at (hasFront (c .before .before .before .before .before .before .before .before .args .ready .now) (c .before .before .before .before .before .before .before .before .args .t1)) (c .before .before .before .before .before .before .before .before .args .transports) (c .before .before .before .before .before .before .before .before .args .start) (c .before .before .before .before .before .before .before .loop .i) (c .before .before .before .before .before .before .loop-test .taken)
+    steps-at (hasFront (readyIn (c .before .before .before .before .before .before .before .before .args .pairs .now) (c .before .before .before .before .before .before .before .before .args .room .now)) (c .before .before .before .before .before .before .before .before .args .t1)) (c .before .before .before .before .before .before .before .before .args .transports) (c .before .before .before .before .before .before .before .before .args .start) (c .before .before .before .before .before .before .before .loop .i) (c .before .before .before .before .before .before .loop-test .taken)
     (ap (λ z. ltb z 32) (sym (front-is (c .before .before))) ∙ lt-ltb _ 32 (c .if1 .taken)) (c .before .before .before .before .before .before .before .loop .inv .1)
     in
     record {
@@ -87,14 +88,14 @@ loop-again : tie.Need-loop-again Inv-loop μ-loop
 unfolding hasFront
 loop-again c = (
   omega (arith, c .before .before .before .before .before .before .loop-test .taken),
-  below-more (λ k. hasFront (c .before .before .before .before .before .before .before .before .args .ready .now) (c .before .before .before .before .before .before .before .before .args .t1) ((c .before .before .before .before .before .before .before .before .args .start + k) % c .before .before .before .before .before .before .before .before .args .transports) ≡ false) (c .before .before .before .before .before .before .before .loop .i) (c .before .before .before .before .before .before .before .loop .inv .1)
+  below-more (λ k. hasFront (readyIn (c .before .before .before .before .before .before .before .before .args .pairs .now) (c .before .before .before .before .before .before .before .before .args .room .now)) (c .before .before .before .before .before .before .before .before .args .t1) ((c .before .before .before .before .before .before .before .before .args .start + k) % c .before .before .before .before .before .before .before .before .args .transports) ≡ false) (c .before .before .before .before .before .before .before .loop .i) (c .before .before .before .before .before .before .before .loop .inv .1)
       (ap (λ z. ltb z 32) (sym (front-is (c .before .before))) ∙ le-ltb _ 32 (c .if1 .left)),
 )
 
 returns-2 : tie.Need-returns-2 Inv-loop μ-loop
 unfolding frontSteps
 returns-2 c = let e =
-    steps-none (hasFront (c .before .before .args .ready .now) (c .before .before .args .t1)) (c .before .before .args .transports) (c .before .before .args .start) (λ k m. c .before .loop .inv .1 k (omega (arith, c .loop-test .left, m)))
+    steps-none (hasFront (readyIn (c .before .before .args .pairs .now) (c .before .before .args .room .now)) (c .before .before .args .t1)) (c .before .before .args .transports) (c .before .before .args .start) (λ k m. c .before .loop .inv .1 k (omega (arith, c .loop-test .left, m)))
     in
     record {
       finds = sym (ap (λ z. ltb z (c .before .before .args .transports)) e ∙ le-ltb (c .before .before .args .transports) (c .before .before .args .transports) (omega arith));
@@ -115,7 +116,7 @@ next-transport-spec =
     mul-q
     array-copy-out-q
     find-front-requires
-    cast-t20
+    cast-t21
     returns
     add-i
     loop-less
