@@ -9,11 +9,11 @@ use lib.ListN.{length, getD, set, replicate}
 use lib.Dec.{eqb}
 use borrow.Author.Tests.{eq-eqb, ne-eqb}
 use Rattle.laws.specs.Range.{anyTo, tableTo}
-use Rattle.laws.proofs.Choice.{and-both, and-right-false, and-left-false, not-is-true, not-is-false, or-right, bool-same}
+use Rattle.laws.proofs.Choice.{and-both, and-right-false, and-left-false, not-is-true, not-is-false, case-bool}
 use Rattle.laws.proofs.All.{any-step}
-use Rattle.laws.proofs.Table.{table-same}
+use Rattle.laws.proofs.Table.{table-same, table-is}
 use Rattle.rules.specs.State.{at}
-use Rattle.leaving.specs.Columns.{usedAt, staysAt}
+use Rattle.leaving.specs.Columns.{usedAt, staysAt, OthersStay}
 use Rattle.leaving.proofs.Lists.{table-write}
 
 and-false : (a : Bool) → a && false ≡ false
@@ -62,3 +62,11 @@ module _ (kind job : List ℕ) (present : List Bool) where
         ∙ table-write (staysAt kind job present e) (staysAt kind job present (e + 1)) 32 j (getD present j false)
         (stay-marked e j (and-both (not-is-true (ne-eqb (at kind e) 0 used)) (eq-eqb (at job e) j (sym is))))
         (λ k l ne. stay-same e k (and-right-false (not (eqb (at kind e) 0)) (ne-eqb (at job e) k (λ q. ne (sym q ∙ sym is)))))
+
+  -- where the others stay, one test is enough
+  pub stay-one : (of : ℕ) {v : Bool} → length present ≡ 32 → OthersStay kind job present of → v ≡ staysAt kind job present 512 of
+      → set present of v ≡ tableTo (staysAt kind job present 512) 32
+  stay-one of {v} len others is =
+      ap (λ l. set l of v) (sym (table-is (λ j. getD present j false) false present 32 len (λ j l. refl)))
+      ∙ table-write (λ j. getD present j false) (staysAt kind job present 512) 32 of v is
+      (λ j l ne. case-bool (getD present j false) (λ t. t ∙ sym (and-both t (others j l ne t))) (λ f. f ∙ sym (and-left-false (anyTo (usedAt kind job j) 512) f)))

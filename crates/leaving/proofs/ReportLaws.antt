@@ -6,11 +6,13 @@ use mathlib.Core.List.{List, [], _∷_}
 use native.Mathlib.Omega.{arith}
 use native.Mathlib.Decide.{decLt}
 use lib.ListN.{length, getD, set, List·getD-eq-default}
+use lib.Seq.{getD-set-other}
 use lib.Dec.{eqb}
 use borrow.Author.Tests.{eqb-true, eq-eqb, ne-eqb}
 use Rattle.laws.specs.Range.{countTo, tableTo}
 use Rattle.laws.specs.Sequence.{keep}
 use Rattle.laws.proofs.Choice.{and-both, and-left, and-right, and-left-false}
+use Rattle.laws.proofs.All.{any-of, any-witness}
 use Rattle.laws.proofs.Count.{count-pos-of, count-le-bound}
 use Rattle.laws.proofs.Table.{length-table, getD-table, table-set}
 use Rattle.rules.specs.declared.Settings.{Settings}
@@ -23,7 +25,7 @@ use Rattle.rules.specs.declared.Outcome.{Outcome}
 use Rattle.rules.specs.declared.Outcome.the-variants.{Success, Failure}
 use Rattle.rules.specs.declared.State.{State}
 use Rattle.rules.specs.Sizes.{maxTransports, maxDestinations, maxJobs, maxEntries, maxLength, lastSecond}
-use Rattle.rules.specs.State.{at, settingsFor, transportOf, healthOf, isLive, zeroDestination, zeroList, listOf, listed, queueOf, isBusy, jobOf, destinationOf, isPresent, usedOf}
+use Rattle.rules.specs.State.{at, settingsFor, transportOf, healthOf, isLive, zeroDestination, zeroList, listOf, listed, queueOf, isFree, isBusy, jobOf, destinationOf, isPresent, usedOf}
 use Rattle.rules.specs.Setup.{settingsInRange, setupInRange}
 use Rattle.rules.specs.Sound.{sound, busyOn, busyTo}
 use Rattle.rules.specs.SoundFacts.{LiveSound, EntrySound, Sound}
@@ -42,7 +44,7 @@ use Rattle.window.specs.Fits.{healthFits}
 use Rattle.charging.specs.Links.{leadsInside}
 use Rattle.charging.proofs.Leads.{leads-present}
 use Rattle.rules.proofs.KeptPreempting.{parent-present}
-use Rattle.leaving.specs.Columns.{stepped, staysAt, adoptedAt, CanPutOff, PutOff, CanReport}
+use Rattle.leaving.specs.Columns.{stepped, usedAt, staysAt, OthersStay, adoptedAt, CanPutOff, PutOff, CanReport}
 
 fits-of : (g : Settings) (h : Health) → ((u : Sums) → h ≡ Live u → LiveSound g u) → healthFits g h ≡ true
 unfolding healthFits
@@ -111,6 +113,29 @@ module _ (s : State) (clock e places : ℕ) (shape : Shaped s) (can : CanReport 
       waiting : (i : ℕ) → i < maxEntries → at (s .entries .kind) i ≡ 1 → EntrySound s i
       waiting i k w = facts .entries i k (waiting-used s i (eq-eqb (at (s .entries .kind) i) 1 w))
 
+  job-below : jobOf s e < maxJobs
+  job-below = present-below s shape (jobOf s e) (its .present)
+
+  -- where nothing was put off, the other jobs have the entries that they had
+  pub others-stay : {died : Bool} {d n : ℕ} {list kind freed dropped list' : List ℕ}
+      → PutOff died d (s .entries .kind) (s .entries .job) (s .entries .destination) (s .jobs .dropped) list kind dropped list' n → freed ≡ set kind e 0 → died ≡ false
+      → OthersStay freed (s .entries .job) (s .jobs .present) (jobOf s e)
+  unfolding usedOf if_then_else_
+  others-stay {kind = kind} {freed = freed} put free lives j l ne p =
+      any-of (usedAt freed (s .entries .job) j) maxEntries i (w .1) (rw same (w .2))
+    where
+      w : (i : ℕ) × (i < maxEntries) × (usedOf s j i ≡ true)
+      w = any-witness (usedOf s j) maxEntries (facts .jobs j l p .used)
+
+      i : ℕ
+      i = w .0
+
+      other : i ≡ e → ⊥
+      other q = ne (sym (eqb-true (jobOf s i) j (and-right (not (isFree s i)) (eqb (jobOf s i) j) (w .2))) ∙ ap (jobOf s) q)
+
+      same : at freed i ≡ at (s .entries .kind) i
+      same = ap (λ k. at k i) free ∙ getD-set-other kind e i 0 0 other ∙ ap (λ k. at k i) (put .kinds) ∙ getD-table _ maxEntries i 0 (w .1) ∙ rw lives refl
+
   pub adopt-asks : (kind : List ℕ) {stay : List Bool} → stay ≡ tableTo (staysAt kind (s .entries .job) (s .jobs .present) 512) 32
       → (j : ℕ) → j < 32 → getD stay j false ≡ true → leadsInside (at (s .jobs .parent)) 32 (at (s .jobs .parent) j) ≡ true
   adopt-asks kind was j l h =
@@ -131,6 +156,7 @@ pub record ReportAsks (s : State) (clock e places : ℕ) : Type 0 where
   pub busyTransport : 1 ≤ at (s .busy .transport) (transportOf s (destinationOf s e))
   pub busyDestination : 1 ≤ at (s .busy .destination) (destinationOf s e)
   pub few : at (s .busy .destination) (destinationOf s e) ≤ 512
+  pub job : jobOf s e < maxJobs
   pub queue : getD (s .queues) (transportOf s (destinationOf s e)) zeroList .count ≤ 32
   pub arrivals : s .arrivals .count ≤ 32
 
@@ -142,6 +168,7 @@ report-asks s clock e places shape can = record {
   busyTransport = busy-transport s clock e places shape can;
   busyDestination = busy-destination s clock e places shape can;
   few = busy-few s clock e places shape can;
+  job = job-below s clock e places shape can;
   queue = queue-few s clock e places shape can;
   arrivals = arrivals-few s clock e places shape can;
 }

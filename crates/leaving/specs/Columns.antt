@@ -45,6 +45,10 @@ usedAt kind job j e = not (eqb (at kind e) 0) && eqb (at job e) j
 abbrev pub staysAt : List ℕ → List ℕ → List Bool → ℕ → ℕ → Bool
 staysAt kind job present n j = getD present j false && anyTo (usedAt kind job j) n
 
+-- each present job but this one has such an entry
+abbrev pub OthersStay : List ℕ → List ℕ → List Bool → ℕ → Type 0
+OthersStay kind job present of = (j : ℕ) → j < maxJobs → (j ≡ of → ⊥) → getD present j false ≡ true → anyTo (usedAt kind job j) maxEntries ≡ true
+
 -- the link to the nearest ancestor that stays
 abbrev pub nearestOf : List Bool → List ℕ → ℕ → ℕ
 nearestOf stays parent link = firstAlong (λ x. getD stays x false) (at parent) maxJobs link
@@ -68,6 +72,13 @@ pub record PutOff (died : Bool) (d : ℕ) (kind job destination dropped list : L
   pub counts : dropped' ≡ tableTo (droppedAt kind job destination dropped died d maxEntries) maxJobs
   pub listed : list' ≡ written (chosenTo (putOffAt kind destination died d) maxEntries) list
   pub number : n ≡ length (chosenTo (putOffAt kind destination died d) maxEntries)
+
+-- A sound state with this clock and these columns of its entries.
+pub record HasColumns (s : State) (last : ℕ) (kind tickets : List ℕ) : Type 0 where
+  pub whole : sound s ≡ true
+  pub clock : s .clock ≡ last
+  pub kinds : s .entries .kind ≡ kind
+  pub issued : s .entries .ticket ≡ tickets
 
 -- What a report needs: each test of its refusals has passed.
 pub record CanReport (s : State) (clock e places : ℕ) : Type 0 where

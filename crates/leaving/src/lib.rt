@@ -3,20 +3,19 @@ use rules::Health;
 use rules::JobList;
 use rules::Outcome;
 use rules::Settings;
-use rules::State;
 ghost use mathlib.Core.Path.{_≡_};
 ghost use mathlib.Core.Bool.{true, false};
 ghost use mathlib.Core.List.{List};
 ghost use Prim.Native.Nat.{ℕ, _≤_, _<_};
 ghost use lib.ListN.{length, getD, set};
-ghost use Rattle.laws.specs.Range.{tableTo};
+ghost use Rattle.laws.specs.Range.{anyTo, tableTo};
+ghost use Rattle.rules.specs.declared.State.{State};
 ghost use Rattle.rules.specs.State.{at, isLive, zeroList};
 ghost use Rattle.rules.specs.Setup.{settingsInRange};
-ghost use Rattle.rules.specs.Sound.{sound};
 ghost use Rattle.rules.specs.Refusals.{reportRefusal};
 ghost use Rattle.window.specs.Fits.{healthFits};
 ghost use Rattle.charging.specs.Links.{leadsInside};
-ghost use Rattle.leaving.specs.Columns.{stepped, staysAt, nearestOf, adoptedAt, CanPutOff, PutOff};
+ghost use Rattle.leaving.specs.Columns.{stepped, usedAt, staysAt, OthersStay, nearestOf, adoptedAt, CanPutOff, PutOff, HasColumns};
 
 fn wide(x: u8) -> usize
     ensures { λ r. ⌜ r ≡ x ⌝ }
@@ -83,8 +82,21 @@ pub fn free(kind: &mut [u8; 512], e: usize)
     kind[e] = 0;
 }
 
-// Which of the present jobs have a waiting or busy entry.
-pub fn staying<'a>(kind: &[u8; 512], job: &'a [u8; 512], present: &[bool; 32]) -> [bool; 32]
+// Whether job j has a waiting or busy entry.
+fn has_entry<'a>(kind: &'a [u8; 512], job: &'a [u8; 512], j: u8) -> bool
+    ensures { λ r. ⌜ r ≡ anyTo (usedAt (now (kind .entry)) (now (job .entry)) j) 512 ⌝ }
+{
+    let mut any = false;
+    let mut e: usize = 0;
+    while e < 512 {
+        any = any | ((kind[e] != 0) & (job[e] == j));
+        e += 1;
+    }
+    any
+}
+
+// Which of the present jobs have one.
+fn all_staying<'a>(kind: &'a [u8; 512], job: &'a [u8; 512], present: &[bool; 32]) -> [bool; 32]
     ensures { λ r. ⌜ r ≡ tableTo (staysAt (now (kind .entry)) (now (job .entry)) (now (present .entry)) 512) 32 ⌝ }
 {
     let mut stays = [false; 32];
@@ -98,6 +110,26 @@ pub fn staying<'a>(kind: &[u8; 512], job: &'a [u8; 512], present: &[bool; 32]) -
         }
         e += 1;
     }
+    stays
+}
+
+// The same after a report of an entry of the job `of`. Where its destination did not die, no other job has lost an entry, and only this one is looked at.
+pub fn staying<'a>(
+    kind: &'a [u8; 512],
+    job: &'a [u8; 512],
+    present: [bool; 32],
+    died: bool,
+    of: u8,
+) -> [bool; 32]
+    requires { ⌜ (of < 32) × (died ≡ false → OthersStay (now kind) (now job) present of) ⌝ }
+    ensures { λ r. ⌜ r ≡ tableTo (staysAt (now (kind .entry)) (now (job .entry)) present 512) 32 ⌝ }
+{
+    if died {
+        return all_staying(kind, job, &present);
+    }
+    let j = of as usize;
+    let mut stays = present;
+    stays[j] = present[j] & has_entry(kind, job, of);
     stays
 }
 
@@ -154,24 +186,29 @@ pub fn queue_of(queues: [JobList; 4], t: usize) -> JobList
     queues[t]
 }
 
-// The refusal of a report, 0 for none. The caller has tested the state.
-pub fn refusal(s: State, clock: u64, entry: u64, ticket: u64, places: usize) -> u8
-    requires { ⌜ sound s ≡ true ⌝ }
-    ensures { λ r. ⌜ ((list : List ℕ) → length list ≡ places → r ≡ reportRefusal s clock entry ticket list) ⌝ }
+// The refusal of a report to a sound state with this clock and these columns, 0 for none.
+pub fn refusal<'a>(
+    last: u32,
+    kind: &'a [u8; 512],
+    tickets: &'a [u32; 512],
+    clock: u64,
+    entry: u64,
+    ticket: u64,
+    places: usize,
+) -> u8
+    ensures { λ r. ⌜ ((s : State) → HasColumns s last (now (kind .entry)) (now (tickets .entry)) → (list : List ℕ) → length list ≡ places → r ≡ reportRefusal s clock entry ticket list) ⌝ }
 {
-    let last = s.clock as u64;
-    if (clock < last) | (4294967295 < clock) {
+    if (clock < last as u64) | (4294967295 < clock) {
         return 3;
     }
     if 512 <= entry {
         return 9; // there is no such entry
     }
     let e = entry as usize;
-    let es = s.entries;
-    if es.kind[e] != 2 {
+    if kind[e] != 2 {
         return 9; // it is not busy
     }
-    let issued = wide_ticket(es.ticket[e]);
+    let issued = wide_ticket(tickets[e]);
     if issued != ticket {
         return 9; // it is busy with another
     }

@@ -98,11 +98,13 @@ pub fn pick(s: State, now: u64) -> PickReply
             state: s,
         };
     }
-    let u = s.setup;
-    let old = s.destinations;
-    let ds = window::wake(old, u, now);
     next.clock = now as u32;
-    next.destinations = ds;
+    let old = s.destinations;
+    if window::any_due(old, s.setup.destinations, now) {
+        let u = s.setup;
+        let ds = window::wake(old, u, now);
+        next.destinations = ds;
+    }
     let c = choice::choose(next, now, &pairs);
     if !c.found {
         return PickReply {
@@ -190,7 +192,15 @@ pub fn report(
             state: s,
         };
     }
-    let k = leaving::refusal(s, now, entry, ticket, list.len());
+    let k = leaving::refusal(
+        s.clock,
+        &next.entries.kind,
+        &next.entries.ticket,
+        now,
+        entry,
+        ticket,
+        list.len(),
+    );
     if k != 0 {
         return ReportReply {
             answer: ReportAnswer::Refused(k),
@@ -201,12 +211,15 @@ pub fn report(
 
     // the destination's step
     let setup = s.setup;
-    let old = s.destinations;
-    let mut ds = window::wake(old, setup, now);
+    let mut ds = s.destinations;
+    if window::any_due(ds, setup.destinations, now) {
+        ds = window::wake(ds, setup, now);
+    }
     let e = entry as usize;
     let job = s.entries.job;
     let destination = s.entries.destination;
     let to = destination[e];
+    let of = job[e];
     let d = to as usize;
     let t = setup.home[d] as usize;
     let g = setup.settings[t];
@@ -239,7 +252,7 @@ pub fn report(
     // those without an entry leave
     let present = jobs.present;
     let parent = jobs.parent;
-    let stays = leaving::staying(&next.entries.kind, &job, &present);
+    let stays = leaving::staying(&next.entries.kind, &next.entries.job, present, died, of);
     jobs.dropped = dropped;
     let adopted = leaving::adopt(&stays, &parent);
     jobs.parent = adopted;

@@ -1,14 +1,16 @@
 -- Laws of the waking of all destinations.
 use Prim.Native.Nat.{ℕ, _+_, _≤_, _<_}
 use mathlib.Core.Bool.{true, false, false≢true}
-use mathlib.Core.Path.{_≡_, refl}
+use mathlib.Core.Path.{_≡_, refl, _∙_, ap}
 use mathlib.Core.List.{List, _++_}
 use native.Mathlib.Numerals.{add-one}
+use native.Mathlib.Decide.{decLt}
 use native.Mathlib.Omega.{arith}
 use lib.ListN.{length, getD, set, drop}
 use borrow.Author.Tests.{lt-ltb, le-ltb}
 use Rattle.laws.specs.Choice.{if_then_else_}
-use Rattle.laws.specs.Range.{tableTo}
+use Rattle.laws.specs.Range.{anyTo, tableTo}
+use Rattle.laws.proofs.All.{any-false-at}
 use Rattle.laws.proofs.Table.{table-drop}
 use Rattle.rules.specs.declared.Settings.{Settings}
 use Rattle.rules.specs.declared.Setup.{Setup}
@@ -19,7 +21,7 @@ use Rattle.rules.specs.declared.Destination.{Destination}
 use Rattle.rules.specs.State.{at, zeroSettings, zeroDestination}
 use Rattle.rules.specs.Setup.{firstState}
 use Rattle.rules.specs.Windows.{wokenHealth, wokenAt}
-use Rattle.window.specs.Waking.{isDue}
+use Rattle.window.specs.Waking.{isDue, dueAt}
 use Rattle.window.proofs.Fill.{table-keep, table-rest}
 
 -- One turn of the code's loop.
@@ -58,3 +60,15 @@ module _ (ds : List Destination) (u : Setup) (now : ℕ) where
   pub woken-all : (d : ℕ) → d ≡ u .destinations → d ≤ length ds → wokenTo d ≡ tableTo (wokenAt ds u now) (length ds)
   unfolding wokenAt if_then_else_
   woken-all d e h = table-rest (wokenAt ds u now) zeroDestination ds d h (λ i l. rw (le-ltb i (u .destinations) (omega arith)))
+
+  -- where none is due, all stay as they are
+  pub none-due : length ds ≡ 32 → anyTo (dueAt ds now) (u .destinations) ≡ false → ds ≡ tableTo (wokenAt ds u now) 32
+  unfolding wokenAt if_then_else_
+  none-due len none =
+      woken-none ∙ table-rest (wokenAt ds u now) zeroDestination ds 0 (omega arith) same ∙ ap (tableTo (wokenAt ds u now)) len
+    where
+      same : (i : ℕ) → 0 ≤ i → wokenAt ds u now i ≡ getD ds i zeroDestination
+      same i _ = elim (decLt i (u .destinations)) [
+        | yes l ↦ rw (lt-ltb i (u .destinations) l, not-due (getD (u .settings) (at (u .home) i) zeroSettings) (getD ds i zeroDestination .health) now (any-false-at (dueAt ds now) (u .destinations) none i l)) refl
+        | no l ↦ rw (le-ltb i (u .destinations) (omega arith)) refl
+      ]

@@ -16,3 +16,7 @@ use Rattle.rules.specs.Windows.{wokenHealth}
 unfoldable pub isDue : Health → ℕ → Bool
 isDue (Live u) now = false
 isDue (Dead end) now = leb end now
+
+-- destination d of these is
+abbrev pub dueAt : List Destination → ℕ → ℕ → Bool
+dueAt ds now d = isDue (getD ds d zeroDestination .health) now

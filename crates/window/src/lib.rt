@@ -14,9 +14,9 @@ ghost use Rattle.rules.specs.Windows.{feedback, cohortShare, raised, liveAfterS
 ghost use Rattle.rules.specs.Windows.{lowered, liveAfterFailure, afterFailure, wokenHealth};
 ghost use Rattle.window.specs.Fits.{healthFits};
 ghost use Rattle.rules.specs.Sound.{sumsFit};
-ghost use Rattle.window.specs.Waking.{isDue};
+ghost use Rattle.window.specs.Waking.{isDue, dueAt};
 ghost use Rattle.rules.specs.Windows.{wokenAt};
-ghost use Rattle.laws.specs.Range.{tableTo};
+ghost use Rattle.laws.specs.Range.{anyTo, tableTo};
 
 // The parts that stand for 1.
 const U: u64 = 23_279_256_000;
@@ -188,6 +188,23 @@ fn is_due(h: Health, now: u64) -> bool
         Health::Live(_) => false,
         Health::Dead(end) => end <= now,
     }
+}
+
+// Whether any of the first `count` destinations is due. Where none is, waking leaves all as they are (`none-due` of proofs/).
+pub fn any_due(ds: [Destination; 32], count: u64, now: u64) -> bool
+    requires { ⌜ count ≤ 32 ⌝ }
+    ensures { λ r. ⌜ r ≡ anyTo (dueAt ds now) count ⌝ }
+{
+    let n = count as usize;
+    let mut any = false;
+    let mut i: usize = 0;
+    while i < n {
+        let x = ds[i];
+        let h = x.health;
+        any = any | is_due(h, now);
+        i += 1;
+    }
+    any
 }
 
 // All destinations of a set-up in range, woken. Of a state's own this is `woken s now .destinations` (`woken-is` of proofs/).

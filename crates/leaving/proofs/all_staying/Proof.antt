@@ -6,8 +6,8 @@ use mathlib.Core.Logic.{⊎-elim}
 use Rattle.laws.specs.Range.{tableTo}
 use Rattle.leaving.specs.Columns.{staysAt}
 use Rattle.leaving.proofs.Marks.{stay-none, stay-free, stay-far, stay-used}
-use Rattle.leaving.proofs.staying.Statement.{statement}
-use Rattle.leaving.proofs.staying.Tie as tie
+use Rattle.leaving.proofs.all_staying.Statement.{statement}
+use Rattle.leaving.proofs.all_staying.Tie as tie
 
 abbrev Inv-loop : tie.InvT-loop
 Inv-loop kind job present stays₀ e₀ stays e = (stays ≡ tableTo (staysAt kind job present e) 32) × (e ≤ 512)
@@ -45,8 +45,8 @@ loop-again c = (⊎-elim (λ w. stay-used (c .before .before .before .before .ar
 returns : tie.Need-returns Inv-loop μ-loop
 returns c = let e : c .before .loop .e ≡ 512 = omega arith in c .before .loop .inv .0 ∙ rw e refl
 
-pub staying-spec : {M : Type 1} → statement M
-staying-spec =
+pub all-staying-spec : {M : Type 1} → statement M
+all-staying-spec =
     tie.close
     (tie.spec
     Inv-loop

@@ -1,37 +1,80 @@
 -- The state's shape is in its type; from it and soundness follows what each step asks, and `report-is` joins what they ensure. Assumes nothing.
-use Prim.Native.Nat.{_≤_}
+use Prim.Native.Nat.{ℕ, _≤_}
 use mathlib.Core.Path.{_≡_, refl, sym, subst, ap, _∙_}
-use mathlib.Core.Bool.{false}
+use mathlib.Core.Logic.{⊎-elim}
+use mathlib.Core.Bool.{true, false}
+use mathlib.Core.List.{List}
 use native.Mathlib.Omega.{arith}
 use lib.ListN.{length, getD, getD-replicate}
 use borrow.Author.Needs.{needs}
 use borrow.Author.Tests.{not-true, not-false}
+use Rattle.laws.specs.Range.{tableTo}
 use Rattle.laws.specs.Sequence.{keep}
 use Rattle.laws.proofs.Table.{length-table}
 use Rattle.rules.specs.declared.JobList.{JobList}
+use Rattle.rules.specs.declared.State.{State}
 use Rattle.rules.specs.State.{listOf, listed}
+use Rattle.rules.specs.Windows.{wokenAt}
 use Rattle.rules.specs.Refusals.{reportRefusal}
 use Rattle.rules.proofs.Shape.{Shaped}
-use Rattle.leaving.specs.Columns.{CanReport}
+use Rattle.window.proofs.WakingLaws.{none-due}
+use Rattle.leaving.specs.Columns.{CanReport, HasColumns}
 use Rattle.soundness.proofs.Shapes.{shaped}
-use Rattle.leaving.proofs.ReportLaws.{ReportAsks, report-asks, step-asks, put-off-asks, adopt-asks, report-is}
-use Rattle.scheduler.proofs.CallLaws.{report-unsound, report-refused, report-can, report-made}
+use Rattle.leaving.proofs.ReportLaws.{ReportAsks, report-asks, step-asks, put-off-asks, others-stay, adopt-asks, report-is}
+use Rattle.scheduler.proofs.CallLaws.{report-unsound, report-refused, report-can, report-made, few}
 use Rattle.scheduler.proofs.report.Statement.{statement}
 use Rattle.scheduler.proofs.report.Tie as tie
 
+-- the arguments
+
+abbrev start : tie.After-refusal → tie.Start
+start c = c .before .before .before .before .before .before .before .before
+
+abbrev state : tie.After-refusal → State
+state c = start c .args .s
+
+abbrev time : tie.After-refusal → ℕ
+time c = start c .args .now
+
+abbrev entry : tie.After-refusal → ℕ
+entry c = start c .args .entry
+
+abbrev lent : tie.After-refusal → List ℕ
+lent c = start c .args .list .now
+
 -- a state that came in has its shape
-shape : (c : tie.Start) → Shaped (c .args .s)
-shape c = shaped (c .args .s) (c .good .0)
+shape : (c : tie.After-refusal) → Shaped (state c)
+shape c = shaped (state c) (start c .good .0)
+
+columns : (c : tie.After-refusal) → HasColumns (state c) (state c .clock) (state c .entries .kind) (state c .entries .ticket)
+columns c = record { whole = sym (c .before .before .before .before .before .sound-with .ensures .0) ∙ not-false _ (c .before .before .before .before .if1 .left); clock = refl; kinds = refl; issued = refl }
+
+refusal-is : (c : tie.After-refusal) → c .refusal .result ≡ reportRefusal (state c) (time c) (entry c) (start c .args .ticket) (lent c)
+refusal-is c = c .refusal .ensures (state c) (columns c) (lent c) refl
 
 -- the refusals have passed
-accepted : (c : tie.Else2) → reportRefusal (c .before .before .before .before .before .before .args .s) (c .before .before .before .before .before .before .args .now) (c .before .before .before .before .before .before .args .entry) (c .before .before .before .before .before .before .args .ticket) (c .before .before .before .before .before .before .args .list .now) ≡ 0
-accepted c = sym (c .before .refusal .ensures (c .before .before .before .before .before .before .args .list .now) refl) ∙ c .if2 .left
+accepted : (c : tie.Else2) → reportRefusal (state (c .before)) (time (c .before)) (entry (c .before)) (start (c .before) .args .ticket) (lent (c .before)) ≡ 0
+accepted c = sym (refusal-is (c .before)) ∙ c .if2 .left
 
-can : (c : tie.Else2) → CanReport (c .before .before .before .before .before .before .args .s) (c .before .before .before .before .before .before .args .now) (c .before .before .before .before .before .before .args .entry) (length (c .before .before .before .before .before .before .args .list .now))
-can c = report-can (c .before .before .before .before .before .before .args .s) (c .before .before .before .before .before .before .args .now) (c .before .before .before .before .before .before .args .entry) (c .before .before .before .before .before .before .args .ticket) (c .before .before .before .before .before .before .args .outcome) (c .before .before .before .before .before .before .args .list .now) (accepted c)
+can : (c : tie.Else2) → CanReport (state (c .before)) (time (c .before)) (entry (c .before)) (length (lent (c .before)))
+can c = report-can (state (c .before)) (time (c .before)) (entry (c .before)) (start (c .before) .args .ticket) (start (c .before) .args .outcome) (lent (c .before)) (accepted c)
 
-asks : (c : tie.Else2) → ReportAsks (c .before .before .before .before .before .before .args .s) (c .before .before .before .before .before .before .args .now) (c .before .before .before .before .before .before .args .entry) (length (c .before .before .before .before .before .before .args .list .now))
-asks c = report-asks (c .before .before .before .before .before .before .args .s) (c .before .before .before .before .before .before .args .now) (c .before .before .before .before .before .before .args .entry) (length (c .before .before .before .before .before .before .args .list .now)) (shape (c .before .before .before .before .before .before)) (can c)
+asks : (c : tie.Else2) → ReportAsks (state (c .before)) (time (c .before)) (entry (c .before)) (length (lent (c .before)))
+asks c = report-asks (state (c .before)) (time (c .before)) (entry (c .before)) (length (lent (c .before))) (shape (c .before)) (can c)
+
+-- where the ways meet, the destinations are awake
+abbrev passed : tie.Joined3 → tie.Else2
+passed c = c .before .before .before .before
+
+abbrev came : tie.Joined3 → tie.After-refusal
+came c = passed c .before
+
+awake : (c : tie.Joined3) → c .if3 .ds ≡ tableTo (wokenAt (state (came c) .destinations) (state (came c) .setup) (time (came c))) 32
+awake c =
+    ⊎-elim
+    (λ a. a .2 ∙ a .1 .ensures)
+    (λ b. b .1 ∙ none-due (state (came c) .destinations) (state (came c) .setup) (time (came c)) (shape (came c) .destinations) (sym (c .before .any-due .ensures) ∙ b .0 .left))
+    (c .if3 .came)
 
 sound-with-requires : tie.Need-sound-with-requires
 sound-with-requires c κs = (refl, λ k l. getD-replicate 1024 k 0 0 l)
@@ -40,100 +83,106 @@ returns : tie.Need-returns
 returns c = report-unsound (c .before .before .before .before .args .s) (c .before .before .before .before .args .now) (c .before .before .before .before .args .entry) (c .before .before .before .before .args .ticket) (c .before .before .before .before .args .outcome) (c .before .before .before .before .args .list .now) (sym (c .before .sound-with .ensures .0) ∙ not-true _ (c .if1 .taken))
 
 refusal-requires : tie.Need-refusal-requires
-refusal-requires c κs = (sym (c .before .sound-with .ensures .0) ∙ not-false _ (c .if1 .left))
+refusal-requires c κs = tt
 
 returns-2 : tie.Need-returns-2
-returns-2 c = report-refused (c .before .before .before .before .before .before .args .s) (c .before .before .before .before .before .before .args .now) (c .before .before .before .before .before .before .args .entry) (c .before .before .before .before .before .before .args .ticket) (c .before .before .before .before .before .before .args .outcome) (c .before .before .before .before .before .before .args .list .now) (c .before .refusal .result) (c .before .refusal .ensures (c .before .before .before .before .before .before .args .list .now) refl) (c .if2 .taken)
+returns-2 c = report-refused (state (c .before)) (time (c .before)) (entry (c .before)) (start (c .before) .args .ticket) (start (c .before) .args .outcome) (lent (c .before)) (c .before .refusal .result) (refusal-is (c .before)) (c .if2 .taken)
 
 cast-next : tie.Need-cast-next
-cast-next c = record { fits = omega (arith, (can c) .early) }
+cast-next c = record { fits = omega (arith, can c .early) }
+
+any-due-requires : tie.Need-any-due-requires
+any-due-requires c κs = few _ (can (c .before .before) .whole)
 
 wake-requires : tie.Need-wake-requires
-wake-requires c κs = asks (c .before .before) .setup
+wake-requires c κs = asks (c .before .before .before .before) .setup
 
 array-read-to : tie.Need-array-read-to
-array-read-to c = (can (c .before .before .before .before .before)) .inside
+array-read-to c = can (c .before .before .before .before .before .before) .inside
+
+array-read-of : tie.Need-array-read-of
+array-read-of c = can (c .before .before .before .before .before .before) .inside
 
 cast-d : tie.Need-cast-d
-cast-d c = omega (arith, asks (c .before .before .before .before .before) .destination)
+cast-d c = omega (arith, asks (c .before .before .before .before .before .before) .destination)
 
 mul-t : tie.Need-mul-t
-mul-t c = omega (arith, asks (c .before .before .before .before .before) .destination)
+mul-t c = omega (arith, asks (c .before .before .before .before .before .before) .destination)
 
 element-copy-out-t : tie.Need-element-copy-out-t
-element-copy-out-t c = asks (c .before .before .before .before .before) .destination
+element-copy-out-t c = asks (c .before .before .before .before .before .before) .destination
 
 mul-g : tie.Need-mul-g
-mul-g c = omega (arith, asks (c .before .before .before .before .before .before) .transport)
+mul-g c = omega (arith, asks (c .before .before .before .before .before .before .before) .transport)
 
 element-copy-out-g : tie.Need-element-copy-out-g
-element-copy-out-g c = asks (c .before .before .before .before .before .before) .transport
+element-copy-out-g c = asks (c .before .before .before .before .before .before .before) .transport
 
 mul-x : tie.Need-mul-x
-mul-x c = omega (arith, asks (c .before .before .before .before .before .before .before) .destination)
+mul-x c = omega (arith, asks (c .before .before .before .before .before .before .before .before) .destination)
 
 array-copy-out-x : tie.Need-array-copy-out-x
-array-copy-out-x c = asks (c .before .before .before .before .before .before .before) .destination
+array-copy-out-x c = asks (c .before .before .before .before .before .before .before .before) .destination
 
 mul-many : tie.Need-mul-many
-mul-many c = omega (arith, asks (c .before .before .before .before .before .before .before .before .before) .destination)
+mul-many c = omega (arith, asks (c .before .before .before .before .before .before .before .before .before .before) .destination)
 
 element-copy-out-many : tie.Need-element-copy-out-many
-element-copy-out-many c = asks (c .before .before .before .before .before .before .before .before .before) .destination
+element-copy-out-many c = asks (c .before .before .before .before .before .before .before .before .before .before) .destination
 
 cast-many : tie.Need-cast-many
-cast-many c = omega (arith, asks (c .before .before .before .before .before .before .before .before .before .before) .few)
+cast-many c = omega (arith, asks (c .before .before .before .before .before .before .before .before .before .before .before) .few)
 
 step-requires : tie.Need-step-requires
-step-requires c κs = step-asks (c .before .before .before .before .before .before .before .before .before .before .before .before .before .before .before .before .args .s) (c .before .before .before .before .before .before .before .before .before .before .before .before .before .before .before .before .args .now) (c .before .before .before .before .before .before .before .before .before .before .before .before .before .before .before .before .args .entry) (length (c .before .before .before .before .before .before .before .before .before .before .before .before .before .before .before .before .args .list .now)) (shape (c .before .before .before .before .before .before .before .before .before .before .before .before .before .before .before .before)) (can (c .before .before .before .before .before .before .before .before .before .before)) (c .before .before .before .before .before .before .before .wake .ensures)
+step-requires c κs = step-asks _ _ _ _ (shape (c .before .before .before .before .before .before .before .before .before .before .before .before)) (can (c .before .before .before .before .before .before .before .before .before .before .before)) (awake (c .before .before .before .before .before .before .before))
 
 mul-ds : tie.Need-mul-ds
-mul-ds c = omega (arith, asks (c .before .before .before .before .before .before .before .before .before .before .before) .destination)
+mul-ds c = omega (arith, asks (c .before .before .before .before .before .before .before .before .before .before .before .before) .destination)
 
 array-set-from-ds : tie.Need-array-set-from-ds
-array-set-from-ds c = asks (c .before .before .before .before .before .before .before .before .before .before .before) .destination
+array-set-from-ds c = asks (c .before .before .before .before .before .before .before .before .before .before .before .before) .destination
 
 mul-busy : tie.Need-mul-busy
-mul-busy c = omega (arith, asks (c .before .before .before .before .before .before .before .before .before .before .before) .transport)
+mul-busy c = omega (arith, asks (c .before .before .before .before .before .before .before .before .before .before .before .before) .transport)
 
 element-copy-out-busy : tie.Need-element-copy-out-busy
-element-copy-out-busy c = asks (c .before .before .before .before .before .before .before .before .before .before .before) .transport
+element-copy-out-busy c = asks (c .before .before .before .before .before .before .before .before .before .before .before .before) .transport
 
 sub-busy : tie.Need-sub-busy
-sub-busy c = asks (c .before .before .before .before .before .before .before .before .before .before .before .before) .busyTransport
+sub-busy c = asks (c .before .before .before .before .before .before .before .before .before .before .before .before .before) .busyTransport
 
 element-write-busy : tie.Need-element-write-busy
-element-write-busy c = asks (c .before .before .before .before .before .before .before .before .before .before .before .before) .transport
+element-write-busy c = asks (c .before .before .before .before .before .before .before .before .before .before .before .before .before) .transport
 
 mul-busy-2 : tie.Need-mul-busy-2
-mul-busy-2 c = omega (arith, asks (c .before .before .before .before .before .before .before .before .before .before .before .before) .destination)
+mul-busy-2 c = omega (arith, asks (c .before .before .before .before .before .before .before .before .before .before .before .before .before) .destination)
 
 element-copy-out-busy-2 : tie.Need-element-copy-out-busy-2
-element-copy-out-busy-2 c = asks (c .before .before .before .before .before .before .before .before .before .before .before .before) .destination
+element-copy-out-busy-2 c = asks (c .before .before .before .before .before .before .before .before .before .before .before .before .before) .destination
 
 sub-busy-2 : tie.Need-sub-busy-2
-sub-busy-2 c = asks (c .before .before .before .before .before .before .before .before .before .before .before .before .before) .busyDestination
+sub-busy-2 c = asks (c .before .before .before .before .before .before .before .before .before .before .before .before .before .before) .busyDestination
 
 element-write-busy-2 : tie.Need-element-write-busy-2
-element-write-busy-2 c = asks (c .before .before .before .before .before .before .before .before .before .before .before .before .before) .destination
+element-write-busy-2 c = asks (c .before .before .before .before .before .before .before .before .before .before .before .before .before .before) .destination
 
 is-live-requires : tie.Need-is-live-requires
-is-live-requires c κs = search needs
+is-live-requires c κs = tt
 
 is-live-requires-2 : tie.Need-is-live-requires-2
-is-live-requires-2 c κs = search needs
+is-live-requires-2 c κs = tt
 
 put-off-requires : tie.Need-put-off-requires
-put-off-requires c κs = put-off-asks (c .before .before .before .before .before .before .before .before .before .before .before .before .before .before .before .before .before .before .before .before .before .before .before .before .before .before .before .before .args .s) (c .before .before .before .before .before .before .before .before .before .before .before .before .before .before .before .before .before .before .before .before .before .before .before .before .before .before .before .before .args .now) (c .before .before .before .before .before .before .before .before .before .before .before .before .before .before .before .before .before .before .before .before .before .before .before .before .before .before .before .before .args .entry) (length (c .before .before .before .before .before .before .before .before .before .before .before .before .before .before .before .before .before .before .before .before .before .before .before .before .before .before .before .before .args .list .now)) (shape (c .before .before .before .before .before .before .before .before .before .before .before .before .before .before .before .before .before .before .before .before .before .before .before .before .before .before .before .before)) (can (c .before .before .before .before .before .before .before .before .before .before .before .before .before .before .before .before .before .before .before .before .before .before)) (c .before .before .before .before .before .before .before .before .before .before .before .before .before .before .before .before .before .before .before .before .before .before .before .before .before .before .before .before .args .list .now) refl
+put-off-requires c κs = put-off-asks _ _ _ _ (shape (c .before .before .before .before .before .before .before .before .before .before .before .before .before .before .before .before .before .before .before .before .before .before .before .before)) (can (c .before .before .before .before .before .before .before .before .before .before .before .before .before .before .before .before .before .before .before .before .before .before .before)) (lent (c .before .before .before .before .before .before .before .before .before .before .before .before .before .before .before .before .before .before .before .before .before .before .before .before)) refl
 
 free-requires : tie.Need-free-requires
-free-requires c κs = (can (c .before .before .before .before .before .before .before .before .before .before .before .before .before .before .before .before .before .before .before .before .before .before .before .before .before .before)) .inside
+free-requires c κs = can (c .before .before .before .before .before .before .before .before .before .before .before .before .before .before .before .before .before .before .before .before .before .before .before .before .before .before .before) .inside
 
 staying-requires : tie.Need-staying-requires
-staying-requires c κs = search needs
+staying-requires c κs = (asks (c .before .before .before .before .before .before .before .before .before .before .before .before .before .before .before .before .before .before .before .before .before .before .before .before .before .before .before .before .before .before .before .before .before) .job, λ lives. others-stay _ _ _ _ (shape (c .before .before .before .before .before .before .before .before .before .before .before .before .before .before .before .before .before .before .before .before .before .before .before .before .before .before .before .before .before .before .before .before .before .before)) (can (c .before .before .before .before .before .before .before .before .before .before .before .before .before .before .before .before .before .before .before .before .before .before .before .before .before .before .before .before .before .before .before .before .before)) (c .before .before .before .before .before .before .before .before .before .put-off .ensures) (c .before .before .before .before .before .free .ensures) lives)
 
 adopt-requires : tie.Need-adopt-requires
-adopt-requires c κs = adopt-asks (c .before .before .before .before .before .before .before .before .before .before .before .before .before .before .before .before .before .before .before .before .before .before .before .before .before .before .before .before .before .before .before .before .before .before .before .before .before .before .before .before .before .before .args .s) (c .before .before .before .before .before .before .before .before .before .before .before .before .before .before .before .before .before .before .before .before .before .before .before .before .before .before .before .before .before .before .before .before .before .before .before .before .before .before .before .before .before .before .args .now) (c .before .before .before .before .before .before .before .before .before .before .before .before .before .before .before .before .before .before .before .before .before .before .before .before .before .before .before .before .before .before .before .before .before .before .before .before .before .before .before .before .before .before .args .entry) (length (c .before .before .before .before .before .before .before .before .before .before .before .before .before .before .before .before .before .before .before .before .before .before .before .before .before .before .before .before .before .before .before .before .before .before .before .before .before .before .before .before .before .before .args .list .now)) (shape (c .before .before .before .before .before .before .before .before .before .before .before .before .before .before .before .before .before .before .before .before .before .before .before .before .before .before .before .before .before .before .before .before .before .before .before .before .before .before .before .before .before .before)) (can (c .before .before .before .before .before .before .before .before .before .before .before .before .before .before .before .before .before .before .before .before .before .before .before .before .before .before .before .before .before .before .before .before .before .before .before .before)) (c .before .before .before .before .before .before .before .before .before .free .last .0) (c .before .before .staying .ensures)
+adopt-requires c κs = adopt-asks _ _ _ _ (shape (c .before .before .before .before .before .before .before .before .before .before .before .before .before .before .before .before .before .before .before .before .before .before .before .before .before .before .before .before .before .before .before .before .before .before .before .before .before)) (can (c .before .before .before .before .before .before .before .before .before .before .before .before .before .before .before .before .before .before .before .before .before .before .before .before .before .before .before .before .before .before .before .before .before .before .before .before)) (c .before .before .before .before .before .before .before .before .free .last .0) (c .before .before .staying .ensures)
 
 queue-of-requires : tie.Need-queue-of-requires
 queue-of-requires c κs = asks (c .before .before .before .before .before .before .before .before .before .before .before .before .before .before .before .before .before .before .before .before .before .before .before .before .before .before .before .before .before .before .before .before .before .before .before .before .before .before) .transport
@@ -154,10 +203,10 @@ same-length : tie.Need-same-length
 same-length c = search needs
 
 returns-3 : tie.Need-returns-3
-returns-3 c = report-made (c .before .before .before .before .before .before .before .before .before .before .before .before .before .before .before .before .before .before .before .before .before .before .before .before .before .before .before .before .before .before .before .before .before .before .before .before .before .before .before .before .before .before .before .before .before .before .before .before .before .before .args .s) (c .before .before .before .before .before .before .before .before .before .before .before .before .before .before .before .before .before .before .before .before .before .before .before .before .before .before .before .before .before .before .before .before .before .before .before .before .before .before .before .before .before .before .before .before .before .before .before .before .before .before .args .now) (c .before .before .before .before .before .before .before .before .before .before .before .before .before .before .before .before .before .before .before .before .before .before .before .before .before .before .before .before .before .before .before .before .before .before .before .before .before .before .before .before .before .before .before .before .before .before .before .before .before .before .args .entry) (c .before .before .before .before .before .before .before .before .before .before .before .before .before .before .before .before .before .before .before .before .before .before .before .before .before .before .before .before .before .before .before .before .before .before .before .before .before .before .before .before .before .before .before .before .before .before .before .before .before .before .args .ticket) (c .before .before .before .before .before .before .before .before .before .before .before .before .before .before .before .before .before .before .before .before .before .before .before .before .before .before .before .before .before .before .before .before .before .before .before .before .before .before .before .before .before .before .before .before .before .before .before .before .before .before .args .outcome) (c .before .before .before .before .before .before .before .before .before .before .before .before .before .before .before .before .before .before .before .before .before .before .before .before .before .before .before .before .before .before .before .before .before .before .before .before .before .before .before .before .before .before .before .before .before .before .before .before .before .before .args .list .now) _ (accepted (c .before .before .before .before .before .before .before .before .before .before .before .before .before .before .before .before .before .before .before .before .before .before .before .before .before .before .before .before .before .before .before .before .before .before .before .before .before .before .before .before .before .before .before .before))
-    (report-is (c .before .before .before .before .before .before .before .before .before .before .before .before .before .before .before .before .before .before .before .before .before .before .before .before .before .before .before .before .before .before .before .before .before .before .before .before .before .before .before .before .before .before .before .before .before .before .before .before .before .before .args .s) (c .before .before .before .before .before .before .before .before .before .before .before .before .before .before .before .before .before .before .before .before .before .before .before .before .before .before .before .before .before .before .before .before .before .before .before .before .before .before .before .before .before .before .before .before .before .before .before .before .before .before .args .now) (c .before .before .before .before .before .before .before .before .before .before .before .before .before .before .before .before .before .before .before .before .before .before .before .before .before .before .before .before .before .before .before .before .before .before .before .before .before .before .before .before .before .before .before .before .before .before .before .before .before .before .args .entry) (c .before .before .before .before .before .before .before .before .before .before .before .before .before .before .before .before .before .before .before .before .before .before .before .before .before .before .before .before .before .before .before .before .before .before .before .before .before .before .before .before .before .before .before .before .before .before .before .before .before .before .args .outcome) (shape (c .before .before .before .before .before .before .before .before .before .before .before .before .before .before .before .before .before .before .before .before .before .before .before .before .before .before .before .before .before .before .before .before .before .before .before .before .before .before .before .before .before .before .before .before .before .before .before .before .before .before)) (c .before .before .before .before .before .before .before .before .before .before .before .before .before .before .before .before .before .before .before .before .before .before .before .before .before .before .before .before .before .before .before .before .before .before .before .before .before .before .before .before .before .wake .ensures) (c .before .before .before .before .before .before .before .before .before .before .before .before .before .before .before .before .before .before .before .before .before .before .before .before .before .before .before .before .before .before .before .before .before .step .ensures) (c .before .before .before .before .before .before .before .before .before .before .before .before .before .before .before .before .before .before .before .before .before .before .before .before .before .before .before .before .before .before .is-live .ensures) (c .before .before .before .before .before .before .before .before .before .before .before .before .before .before .before .before .before .before .before .before .before .before .before .before .before .before .before .before .before .is-live2 .ensures) (c .before .before .before .before .before .before .before .before .before .before .before .before .before .before .before .before .before .before .before .before .before .put-off .ensures)
-    (c .before .before .before .before .before .before .before .before .before .before .before .before .before .before .before .before .before .free .ensures) (c .before .before .before .before .before .before .before .before .before .before .staying .ensures)
-    (c .before .before .before .before .before .before .before .adopt .ensures)
+returns-3 c =
+    report-made (state (c .before .before .before .before .before .before .before .before .before .before .before .before .before .before .before .before .before .before .before .before .before .before .before .before .before .before .before .before .before .before .before .before .before .before .before .before .before .before .before .before .before .before .before .before .before)) (time (c .before .before .before .before .before .before .before .before .before .before .before .before .before .before .before .before .before .before .before .before .before .before .before .before .before .before .before .before .before .before .before .before .before .before .before .before .before .before .before .before .before .before .before .before .before)) (entry (c .before .before .before .before .before .before .before .before .before .before .before .before .before .before .before .before .before .before .before .before .before .before .before .before .before .before .before .before .before .before .before .before .before .before .before .before .before .before .before .before .before .before .before .before .before)) (start (c .before .before .before .before .before .before .before .before .before .before .before .before .before .before .before .before .before .before .before .before .before .before .before .before .before .before .before .before .before .before .before .before .before .before .before .before .before .before .before .before .before .before .before .before .before) .args .ticket) (start (c .before .before .before .before .before .before .before .before .before .before .before .before .before .before .before .before .before .before .before .before .before .before .before .before .before .before .before .before .before .before .before .before .before .before .before .before .before .before .before .before .before .before .before .before .before) .args .outcome) (lent (c .before .before .before .before .before .before .before .before .before .before .before .before .before .before .before .before .before .before .before .before .before .before .before .before .before .before .before .before .before .before .before .before .before .before .before .before .before .before .before .before .before .before .before .before .before)) _ (accepted (c .before .before .before .before .before .before .before .before .before .before .before .before .before .before .before .before .before .before .before .before .before .before .before .before .before .before .before .before .before .before .before .before .before .before .before .before .before .before .before .before .before .before .before .before))
+    (report-is (state (c .before .before .before .before .before .before .before .before .before .before .before .before .before .before .before .before .before .before .before .before .before .before .before .before .before .before .before .before .before .before .before .before .before .before .before .before .before .before .before .before .before .before .before .before .before)) (time (c .before .before .before .before .before .before .before .before .before .before .before .before .before .before .before .before .before .before .before .before .before .before .before .before .before .before .before .before .before .before .before .before .before .before .before .before .before .before .before .before .before .before .before .before .before)) (entry (c .before .before .before .before .before .before .before .before .before .before .before .before .before .before .before .before .before .before .before .before .before .before .before .before .before .before .before .before .before .before .before .before .before .before .before .before .before .before .before .before .before .before .before .before .before)) (start (c .before .before .before .before .before .before .before .before .before .before .before .before .before .before .before .before .before .before .before .before .before .before .before .before .before .before .before .before .before .before .before .before .before .before .before .before .before .before .before .before .before .before .before .before .before) .args .outcome) (shape (c .before .before .before .before .before .before .before .before .before .before .before .before .before .before .before .before .before .before .before .before .before .before .before .before .before .before .before .before .before .before .before .before .before .before .before .before .before .before .before .before .before .before .before .before .before)) (awake (c .before .before .before .before .before .before .before .before .before .before .before .before .before .before .before .before .before .before .before .before .before .before .before .before .before .before .before .before .before .before .before .before .before .before .before .before .before .before .before .before)) (c .before .before .before .before .before .before .before .before .before .before .before .before .before .before .before .before .before .before .before .before .before .before .before .before .before .before .before .before .before .before .before .before .step .ensures) (c .before .before .before .before .before .before .before .before .before .before .before .before .before .before .before .before .before .before .before .before .before .before .before .before .before .before .before .before .before .is-live .ensures) (c .before .before .before .before .before .before .before .before .before .before .before .before .before .before .before .before .before .before .before .before .before .before .before .before .before .before .before .before .is-live2 .ensures) (c .before .before .before .before .before .before .before .before .before .before .before .before .before .before .before .before .before .before .before .before .put-off .ensures)
+    (c .before .before .before .before .before .before .before .before .before .before .before .before .before .before .before .before .free .ensures) (c .before .before .before .before .before .before .before .before .before .before .staying .ensures) (c .before .before .before .before .before .before .before .adopt .ensures)
     (c .before .before .before .keep .ensures ∙ ap (λ (q : JobList). listed (keep (λ j. getD (c .before .before .before .before .before .before .before .before .before .before .staying .result) j false) (listOf q))) (c .before .before .before .before .before .queue-of .ensures)) (c .keep2 .ensures))
 
 pub report-spec : {M : Type 1} → statement M
@@ -169,8 +218,10 @@ report-spec =
     refusal-requires
     returns-2
     cast-next
+    any-due-requires
     wake-requires
     array-read-to
+    array-read-of
     cast-d
     mul-t
     element-copy-out-t
