@@ -1,19 +1,19 @@
 -- What the code of a report asks of a sound state, and that what it builds is the rules' reply.
-use Prim.Native.Nat.{ℕ, suc, _+_, _-_, _≤_, _<_}
+use Prim.Native.Nat.{ℕ, suc, _+_, _-_, _*_, _≤_, _<_}
 use mathlib.Core.Path.{_≡_, refl, sym, _∙_, ap, subst, fun-ext}
-use mathlib.Core.Bool.{Bool, true, false, not, _&&_}
+use mathlib.Core.Bool.{Bool, true, false, not, _&&_, _||_}
 use mathlib.Core.List.{List, [], _∷_}
 use native.Mathlib.Omega.{arith}
 use native.Mathlib.Decide.{decLt}
 use lib.ListN.{length, getD, set, List·getD-eq-default}
 use lib.Seq.{getD-set-other}
-use lib.Dec.{eqb}
-use borrow.Author.Tests.{eqb-true, eq-eqb, ne-eqb}
+use lib.Dec.{eqb, ltb}
+use borrow.Author.Tests.{ltb-false, eqb-true, eq-eqb, ne-eqb}
 use Rattle.laws.specs.Range.{countTo, tableTo}
 use Rattle.laws.specs.Sequence.{keep}
-use Rattle.laws.proofs.Choice.{and-both, and-left, and-right, and-left-false}
+use Rattle.laws.proofs.Choice.{if-false, true-not-false, false-of, and-both, and-left, and-right, and-left-false, or-left-false, or-right-false}
 use Rattle.laws.proofs.All.{any-of, any-witness}
-use Rattle.laws.proofs.Count.{count-pos-of, count-le-bound}
+use Rattle.laws.proofs.Count.{count-pos-of, count-zero-at, count-le-bound}
 use Rattle.laws.proofs.Table.{length-table, getD-table, table-set}
 use Rattle.rules.specs.declared.Settings.{Settings}
 use Rattle.rules.specs.declared.Sums.{Sums}
@@ -41,10 +41,11 @@ use Rattle.rules.proofs.EntryFacts.{present-below, waiting-used}
 use Rattle.rules.proofs.KeptWaking.{kept-woken}
 use Rattle.rules.proofs.Departed.{absent-leaves}
 use Rattle.window.specs.Fits.{healthFits}
+use Rattle.soundness.specs.Columns.{tallyTo, Paired}
 use Rattle.charging.specs.Links.{leadsInside}
 use Rattle.charging.proofs.Leads.{leads-present}
 use Rattle.rules.proofs.KeptPreempting.{parent-present}
-use Rattle.leaving.specs.Columns.{stepped, usedAt, staysAt, OthersStay, adoptedAt, CanPutOff, PutOff, CanReport}
+use Rattle.leaving.specs.Columns.{stepped, putOffAt, usedAt, staysAt, touched, OthersStay, adoptedAt, CanPutOff, PutOff, CanReport}
 
 fits-of : (g : Settings) (h : Health) → ((u : Sums) → h ≡ Live u → LiveSound g u) → healthFits g h ≡ true
 unfolding healthFits
@@ -116,25 +117,48 @@ module _ (s : State) (clock e places : ℕ) (shape : Shaped s) (can : CanReport 
   job-below : jobOf s e < maxJobs
   job-below = present-below s shape (jobOf s e) (its .present)
 
-  -- where nothing was put off, the other jobs have the entries that they had
-  pub others-stay : {died : Bool} {d n : ℕ} {list kind freed dropped list' : List ℕ}
-      → PutOff died d (s .entries .kind) (s .entries .job) (s .entries .destination) (s .jobs .dropped) list kind dropped list' n → freed ≡ set kind e 0 → died ≡ false
-      → OthersStay freed (s .entries .job) (s .jobs .present) (jobOf s e)
-  unfolding usedOf if_then_else_
-  others-stay {kind = kind} {freed = freed} put free lives j l ne p =
-      any-of (usedAt freed (s .entries .job) j) maxEntries i (w .1) (rw same (w .2))
-    where
-      w : (i : ℕ) × (i < maxEntries) × (usedOf s j i ≡ true)
-      w = any-witness (usedOf s j) maxEntries (facts .jobs j l p .used)
+  -- the jobs that have lost no entry: where nothing was put off all but that of the entry, else those with none that waited for the destination
 
-      i : ℕ
-      i = w .0
+  module _ {died : Bool} {n : ℕ} {list kind freed dropped list' : List ℕ}
+      (put : PutOff died (destinationOf s e) (s .entries .kind) (s .entries .job) (s .entries .destination) (s .jobs .dropped) list kind dropped list' n)
+      (free : freed ≡ set kind e 0) where
+    -- a used entry of another job that was not put off is used still
+    used-still : (j i : ℕ) → i < maxEntries → usedOf s j i ≡ true → (j ≡ jobOf s e → ⊥)
+        → putOffAt (s .entries .kind) (s .entries .destination) died (destinationOf s e) i ≡ false → usedAt freed (s .entries .job) j i ≡ true
+    unfolding usedOf
+    used-still j i l used ne kept = rw same used
+      where
+        other : i ≡ e → ⊥
+        other q = ne (sym (eqb-true (jobOf s i) j (and-right (not (isFree s i)) (eqb (jobOf s i) j) used)) ∙ ap (jobOf s) q)
 
-      other : i ≡ e → ⊥
-      other q = ne (sym (eqb-true (jobOf s i) j (and-right (not (isFree s i)) (eqb (jobOf s i) j) (w .2))) ∙ ap (jobOf s) q)
+        same : at freed i ≡ at (s .entries .kind) i
+        same = ap (λ k. at k i) free ∙ getD-set-other kind e i 0 0 other ∙ ap (λ k. at k i) (put .kinds) ∙ getD-table _ maxEntries i 0 l ∙ if-false 0 (at (s .entries .kind) i) kept
 
-      same : at freed i ≡ at (s .entries .kind) i
-      same = ap (λ k. at k i) free ∙ getD-set-other kind e i 0 0 other ∙ ap (λ k. at k i) (put .kinds) ∙ getD-table _ maxEntries i 0 (w .1) ∙ rw lives refl
+    stay-where : (these : ℕ → Bool) → ((j : ℕ) → j < maxJobs → these j ≡ false → (j ≡ jobOf s e → ⊥)
+        × ((i : ℕ) → i < maxEntries → usedOf s j i ≡ true → putOffAt (s .entries .kind) (s .entries .destination) died (destinationOf s e) i ≡ false))
+        → OthersStay these freed (s .entries .job) (s .jobs .present)
+    stay-where these h j l f p =
+        let w = any-witness (usedOf s j) maxEntries (facts .jobs j l p .used) in
+        any-of (usedAt freed (s .entries .job) j) maxEntries (w .0) (w .1) (used-still j (w .0) (w .1) (w .2) (h j l f .0) (h j l f .1 (w .0) (w .1) (w .2)))
+
+    pub others-live : died ≡ false → OthersStay (λ j. eqb j (jobOf s e)) freed (s .entries .job) (s .jobs .present)
+    others-live lives = stay-where (λ j. eqb j (jobOf s e)) λ j l f. (λ q. true-not-false (eq-eqb j (jobOf s e) q) f, λ i m u. rw lives refl)
+
+    pub others-stay : {pairs : List ℕ} → Paired (s .entries .kind) (s .entries .job) (s .entries .destination) pairs
+        → OthersStay (touched pairs (destinationOf s e) (jobOf s e)) freed (s .entries .job) (s .jobs .present)
+    unfolding usedOf tallyTo
+    others-stay {pairs} paired = stay-where (touched pairs (destinationOf s e) (jobOf s e)) λ j l f.
+        let none = ltb-false 0 (at pairs (32 * j + destinationOf s e)) (or-left-false (ltb 0 (at pairs (32 * j + destinationOf s e))) (eqb j (jobOf s e)) f) in
+        let zero' : at pairs (32 * j + destinationOf s e) ≡ 0 = omega (arith, none) in
+        let count = sym (paired .counts (32 * j + destinationOf s e) (omega (arith, l, destination-below))) ∙ zero' in (
+          λ q. true-not-false (eq-eqb j (jobOf s e) q) (or-right-false (ltb 0 (at pairs (32 * j + destinationOf s e))) (eqb j (jobOf s e)) f),
+          λ i m u. false-of λ t.
+              let own = eqb-true (jobOf s i) j (and-right (not (isFree s i)) (eqb (jobOf s i) j) u) in
+              let to = eqb-true (destinationOf s i) (destinationOf s e) (and-right (died && eqb (at (s .entries .kind) i) 1) (eqb (destinationOf s i) (destinationOf s e)) t) in
+              let waits = and-right died (eqb (at (s .entries .kind) i) 1) (and-left (died && eqb (at (s .entries .kind) i) 1) (eqb (destinationOf s i) (destinationOf s e)) t) in
+              true-not-false (and-both waits (eq-eqb (32 * jobOf s i + destinationOf s i) (32 * j + destinationOf s e) (omega (arith, own, to))))
+              (count-zero-at (λ i. eqb (at (s .entries .kind) i) 1 && eqb (32 * jobOf s i + destinationOf s i) (32 * j + destinationOf s e)) maxEntries count i m),
+        )
 
   pub adopt-asks : (kind : List ℕ) {stay : List Bool} → stay ≡ tableTo (staysAt kind (s .entries .job) (s .jobs .present) 512) 32
       → (j : ℕ) → j < 32 → getD stay j false ≡ true → leadsInside (at (s .jobs .parent)) 32 (at (s .jobs .parent) j) ≡ true

@@ -1,10 +1,10 @@
 -- The parts of a report over the columns that they read: each is what rules/specs/Reporting.antt says of a state with these columns.
-use Prim.Native.Nat.{ℕ, _+_, _≤_, _<_}
+use Prim.Native.Nat.{ℕ, _+_, _*_, _≤_, _<_}
 use mathlib.Core.Path.{_≡_}
-use mathlib.Core.Bool.{Bool, true, false, not, _&&_}
+use mathlib.Core.Bool.{Bool, true, false, not, _&&_, _||_}
 use mathlib.Core.List.{List}
 use lib.ListN.{length, getD}
-use lib.Dec.{eqb}
+use lib.Dec.{eqb, ltb}
 use Rattle.laws.specs.Choice.{if_then_else_}
 use Rattle.laws.specs.Range.{anyTo, countTo, chosenTo, tableTo}
 use Rattle.laws.specs.Chain.{firstAlong}
@@ -45,9 +45,14 @@ usedAt kind job j e = not (eqb (at kind e) 0) && eqb (at job e) j
 abbrev pub staysAt : List ℕ → List ℕ → List Bool → ℕ → ℕ → Bool
 staysAt kind job present n j = getD present j false && anyTo (usedAt kind job j) n
 
--- each present job but this one has such an entry
-abbrev pub OthersStay : List ℕ → List ℕ → List Bool → ℕ → Type 0
-OthersStay kind job present of = (j : ℕ) → j < maxJobs → (j ≡ of → ⊥) → getD present j false ≡ true → anyTo (usedAt kind job j) maxEntries ≡ true
+-- the jobs that lose an entry where destination d dies at a report of an entry of the job `of`: those with an entry that waited for d, and that one
+abbrev pub touched : List ℕ → ℕ → ℕ → ℕ → Bool
+touched pairs d of j = ltb 0 (at pairs (32 * j + d)) || eqb j of
+
+-- each present job but these has a waiting or busy entry
+abbrev pub OthersStay : (ℕ → Bool) → List ℕ → List ℕ → List Bool → Type 0
+OthersStay these kind job present =
+    (j : ℕ) → j < maxJobs → these j ≡ false → getD present j false ≡ true → anyTo (usedAt kind job j) maxEntries ≡ true
 
 -- the link to the nearest ancestor that stays
 abbrev pub nearestOf : List Bool → List ℕ → ℕ → ℕ

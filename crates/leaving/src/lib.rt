@@ -8,6 +8,7 @@ ghost use mathlib.Core.Bool.{true, false};
 ghost use mathlib.Core.List.{List};
 ghost use Prim.Native.Nat.{ℕ, _≤_, _<_};
 ghost use lib.ListN.{length, getD, set};
+ghost use lib.Dec.{eqb};
 ghost use Rattle.laws.specs.Range.{anyTo, tableTo};
 ghost use Rattle.rules.specs.declared.State.{State};
 ghost use Rattle.rules.specs.State.{at, isLive, zeroList};
@@ -15,7 +16,7 @@ ghost use Rattle.rules.specs.Setup.{settingsInRange};
 ghost use Rattle.rules.specs.Refusals.{reportRefusal};
 ghost use Rattle.window.specs.Fits.{healthFits};
 ghost use Rattle.charging.specs.Links.{leadsInside};
-ghost use Rattle.leaving.specs.Columns.{stepped, usedAt, staysAt, OthersStay, nearestOf, adoptedAt, CanPutOff, PutOff, HasColumns};
+ghost use Rattle.leaving.specs.Columns.{stepped, usedAt, staysAt, touched, OthersStay, nearestOf, adoptedAt, CanPutOff, PutOff, HasColumns};
 
 fn wide(x: u8) -> usize
     ensures { λ r. ⌜ r ≡ x ⌝ }
@@ -95,37 +96,49 @@ fn has_entry<'a>(kind: &'a [u8; 512], job: &'a [u8; 512], j: u8) -> bool
     any
 }
 
-// Which of the present jobs have one.
-fn all_staying<'a>(kind: &'a [u8; 512], job: &'a [u8; 512], present: &[bool; 32]) -> [bool; 32]
-    ensures { λ r. ⌜ r ≡ tableTo (staysAt (now (kind .entry)) (now (job .entry)) (now (present .entry)) 512) 32 ⌝ }
+// Which of the present jobs have one after entries that waited for destination d were put off, and an entry of the job `of` was freed. A job that had
+// none waiting for d, by the table of the soundness test, and is not that one has the entries that it had.
+fn left_with_some<'a>(
+    kind: &'a [u8; 512],
+    job: &'a [u8; 512],
+    pairs: &[u16; 1024],
+    present: [bool; 32],
+    d: u8,
+    of: u8,
+) -> [bool; 32]
+    requires { ⌜ (d < 32) × OthersStay (touched (now pairs) d of) (now kind) (now job) present ⌝ }
+    ensures { λ r. ⌜ r ≡ tableTo (staysAt (now (kind .entry)) (now (job .entry)) present 512) 32 ⌝ }
 {
-    let mut stays = [false; 32];
-    let mut e: usize = 0;
-    while e < 512 {
-        if kind[e] != 0 {
-            let j = wide(job[e]);
-            if j < 32 {
-                stays[j] = present[j];
-            }
+    let to = d as usize;
+    let own = of as usize;
+    let mut stays = present;
+    let mut j: usize = 0;
+    while j < 32 {
+        if (0 < pairs[32 * j + to]) | (j == own) {
+            stays[j] = present[j] & has_entry(kind, job, j as u8);
         }
-        e += 1;
+        j += 1;
     }
     stays
 }
 
-// The same after a report of an entry of the job `of`. Where its destination did not die, no other job has lost an entry, and only this one is looked at.
+// Which of the present jobs stay after a report of an entry of the job `of`. Where its destination did not die, no other job has lost an entry, and
+// only this one is looked at.
 pub fn staying<'a>(
     kind: &'a [u8; 512],
     job: &'a [u8; 512],
+    pairs: &[u16; 1024],
     present: [bool; 32],
     died: bool,
+    d: u8,
     of: u8,
 ) -> [bool; 32]
-    requires { ⌜ (of < 32) × (died ≡ false → OthersStay (now kind) (now job) present of) ⌝ }
+    requires { ⌜ (d < 32) × (of < 32) × (died ≡ true → OthersStay (touched (now pairs) d of) (now kind) (now job) present)
+        × (died ≡ false → OthersStay (λ j. eqb j of) (now kind) (now job) present) ⌝ }
     ensures { λ r. ⌜ r ≡ tableTo (staysAt (now (kind .entry)) (now (job .entry)) present 512) 32 ⌝ }
 {
     if died {
-        return all_staying(kind, job, &present);
+        return left_with_some(kind, job, pairs, present, d, of);
     }
     let j = of as usize;
     let mut stays = present;

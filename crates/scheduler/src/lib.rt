@@ -252,7 +252,15 @@ pub fn report(
     // those without an entry leave
     let present = jobs.present;
     let parent = jobs.parent;
-    let stays = leaving::staying(&next.entries.kind, &next.entries.job, present, died, of);
+    let stays = leaving::staying(
+        &next.entries.kind,
+        &next.entries.job,
+        &pairs,
+        present,
+        died,
+        to,
+        of,
+    );
     jobs.dropped = dropped;
     let adopted = leaving::adopt(&stays, &parent);
     jobs.parent = adopted;

@@ -1,0 +1,93 @@
+-- Below j it is said who stays; from j on stands who was present. Assumes nothing.
+use borrow.Author.Needs.{needs}
+use Prim.Native.Nat.{_≤_, _<_, _-_}
+use mathlib.Core.Bool.{false, _&&_}
+use mathlib.Core.List.{_++_}
+use mathlib.Core.Logic.{⊎-elim}
+use mathlib.Core.Path.{_≡_, ap, _∙_}
+use native.Mathlib.Omega.{arith}
+use lib.ListN.{length, getD, drop}
+use Rattle.laws.specs.Range.{tableTo}
+use Rattle.leaving.specs.Columns.{staysAt, touched}
+use Rattle.leaving.proofs.Lists.{fill-none, fill-more, fill-all}
+use Rattle.leaving.proofs.Marks.{stay-kept}
+use Rattle.leaving.proofs.left_with_some.Statement.{statement}
+use Rattle.leaving.proofs.left_with_some.Tie as tie
+
+abbrev Inv-loop : tie.InvT-loop
+Inv-loop kind job pairs d of present to own stays₀ j₀ stays j =
+    (stays ≡ tableTo (staysAt kind job present 512) j ++ drop j present) × (j ≤ 32) × (length present ≡ 32) × (d < 32)
+
+abbrev μ-loop : tie.MeasureT-loop
+μ-loop kind job pairs d of present to own stays₀ j₀ stays j = 32 - j
+
+loop-holds : tie.Need-loop-holds Inv-loop μ-loop
+loop-holds c = (fill-none _ _, omega arith, search needs, c .pre .0)
+
+mul-if1 : tie.Need-mul-if1 Inv-loop μ-loop
+mul-if1 c = omega arith
+
+add-if1 : tie.Need-add-if1 Inv-loop μ-loop
+add-if1 c = omega (arith, c .before .loop .inv .3)
+
+mul-if1-2 : tie.Need-mul-if1-2 Inv-loop μ-loop
+mul-if1-2 c = omega (arith, c .before .loop .inv .3)
+
+element-copy-out-if1 : tie.Need-element-copy-out-if1 Inv-loop μ-loop
+element-copy-out-if1 c = omega (arith, c .before .loop .inv .3)
+
+array-read-stays : tie.Need-array-read-stays Inv-loop μ-loop
+array-read-stays c = omega arith
+
+cast-has-entry : tie.Need-cast-has-entry Inv-loop μ-loop
+cast-has-entry c = omega arith
+
+has-entry-requires : tie.Need-has-entry-requires Inv-loop μ-loop
+has-entry-requires c κs = tt
+
+array-write-stays : tie.Need-array-write-stays Inv-loop μ-loop
+array-write-stays c = omega arith
+
+add-j : tie.Need-add-j Inv-loop μ-loop
+add-j c = omega arith
+
+loop-less : tie.Need-loop-less Inv-loop μ-loop
+loop-less c = omega arith
+
+loop-again : tie.Need-loop-again Inv-loop μ-loop
+loop-again c =
+    let l : c .before .before .before .loop .j < length (c .before .before .before .before .args .t4) = omega (arith, c .before .before .before .loop .inv .2) in (
+      ⊎-elim
+          (λ w. w .2 ∙ fill-more (staysAt (c .before .before .before .before .args .kind .now) (c .before .before .before .before .args .job .now) (c .before .before .before .before .args .t4) 512) (c .before .before .before .before .args .t4) (c .before .before .before .loop .j) l (c .before .before .before .loop .inv .0) (ap (λ b. getD (c .before .before .before .before .args .t4) (c .before .before .before .loop .j) false && b) (w .1 .ensures)))
+          (λ w. w .1 ∙ c .before .before .before .loop .inv .0 ∙ stay-kept (c .before .before .before .before .args .kind .now) (c .before .before .before .before .args .job .now) (c .before .before .before .before .args .t4) (touched (c .before .before .before .before .args .pairs .now) (c .before .before .before .before .args .d) (c .before .before .before .before .args .of)) (c .before .before .before .before .pre .1) (c .before .before .before .loop .j) (c .before .before .loop-test .taken) l (w .0 .left))
+          (c .if1 .came),
+      omega arith,
+      c .before .before .before .loop .inv .2,
+      c .before .before .before .loop .inv .3,
+    )
+
+returns : tie.Need-returns Inv-loop μ-loop
+returns c =
+    let e : c .before .loop .j ≡ 32 = omega arith in
+    fill-all (staysAt (c .before .before .args .kind .now) (c .before .before .args .job .now) (c .before .before .args .t4) 512) (c .before .before .args .t4) 32 (c .before .loop .inv .2)
+    (c .before .loop .inv .0 ∙ ap (λ j. tableTo (staysAt (c .before .before .args .kind .now) (c .before .before .args .job .now) (c .before .before .args .t4) 512) j ++ drop j (c .before .before .args .t4)) e)
+
+pub left-with-some-spec : {M : Type 1} → statement M
+left-with-some-spec =
+    tie.close
+    (tie.spec
+    Inv-loop
+    μ-loop
+    loop-holds
+    mul-if1
+    add-if1
+    mul-if1-2
+    element-copy-out-if1
+    array-read-stays
+    cast-has-entry
+    has-entry-requires
+    array-write-stays
+    add-j
+    loop-less
+    loop-again
+    returns)
