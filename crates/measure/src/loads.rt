@@ -11,7 +11,7 @@ ghost use Prim.Native.Nat.{_≤_};
 ghost use lib.ListN.{length};
 
 // One more. No count comes near the last number.
-fn more(x: u32) -> u32 {
+pub fn more(x: u32) -> u32 {
     std::num::wrapping_add_u32(x, 1)
 }
 
@@ -110,12 +110,12 @@ pub fn pick(rounds: u32) -> u32 {
 }
 
 // The scene with 64 entries more handed out, and which they are. Their tickets are 64 to 127.
-struct Out {
-    state: State,
-    entries: [u64; 64],
+pub struct Out {
+    pub state: State,
+    pub entries: [u64; 64],
 }
 
-fn all_out() -> Out {
+pub fn all_out() -> Out {
     let mut s = scene::whole();
     let mut entries = [0u64; 64];
     let mut k: usize = 0;

@@ -1,5 +1,6 @@
 // Makes the calls of the scheduler many times, to be timed from outside: docs/PERFORMANCE.md. The argument says which call; with none,
 // each is made a few times.
+mod deaths;
 mod loads;
 mod scene;
 
@@ -13,6 +14,7 @@ fn main() {
         say(b"sound ", loads::sound(64));
         say(b"pick ", loads::pick(16));
         say(b"report ", loads::report(16));
+        say(b"death ", deaths::death(1));
         say(b"turn ", loads::turn(216));
         say(b"job ", loads::job(1));
         say(b"ask ", loads::ask(32));
@@ -33,6 +35,9 @@ fn measure(name: &[u8]) {
     }
     if check::same(name, b"report") {
         say(b"report ", loads::report(rounds / 4));
+    }
+    if check::same(name, b"death") {
+        say(b"death ", deaths::death(rounds));
     }
     if check::same(name, b"turn") {
         say(b"turn ", loads::turn(rounds));
