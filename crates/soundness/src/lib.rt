@@ -4,8 +4,8 @@ use rules::State;
 mod destinations;
 mod entries;
 mod jobs;
-mod lists;
 mod orders;
+mod queues;
 
 ghost use mathlib.Core.Path.{_≡_};
 ghost use mathlib.Core.Bool.{true};
@@ -85,16 +85,16 @@ pub fn sound_with(s: State, pairs: &mut [u16; 1024]) -> bool
         return false;
     }
     let queues = s.queues;
-    if !lists::queues_right(queues, &g.present, &g.transport, transports) {
+    if !queues::queues_right(queues, &g.present, &g.transport, transports) {
         return false;
     }
     let arrivals = s.arrivals;
     let present = g.present;
-    if !lists::each_once(arrivals, present) {
+    if !queues::each_once(arrivals, present) {
         return false;
     }
     let clock = s.clock;
-    if !lists::seconds_rise(arrivals, &g.arrival, clock) {
+    if !queues::seconds_rise(arrivals, &g.arrival, clock) {
         return false;
     }
     let states = s.destinations;

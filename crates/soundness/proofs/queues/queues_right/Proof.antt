@@ -1,4 +1,4 @@
--- `soundness::lists::queues_right` meets its contract. Invariant: the lists of the transports passed are right.
+-- `soundness::queues::queues_right` meets its contract. Invariant: the lists of the transports passed are right.
 use borrow.Author.Needs.{needs}
 use native.Mathlib.Omega.{arith}
 use Prim.Native.Nat.{_-_, _≤_}
@@ -12,8 +12,8 @@ use Rattle.rules.specs.State.{at}
 use Rattle.soundness.specs.Columns.{queueTest}
 use Rattle.soundness.proofs.Laws.{all-none, all-more, length-of-map}
 use Rattle.soundness.proofs.ListLaws.{queue-tested}
-use Rattle.soundness.proofs.lists.queues_right.Statement.{statement}
-use Rattle.soundness.proofs.lists.queues_right.Tie as tie
+use Rattle.soundness.proofs.queues.queues_right.Statement.{statement}
+use Rattle.soundness.proofs.queues.queues_right.Tie as tie
 
 abbrev Inv-loop : tie.InvT-loop
 Inv-loop present transport transports queues t₀ t = (allTo (queueTest queues present transport) t ≡ true) × (t ≤ transports)

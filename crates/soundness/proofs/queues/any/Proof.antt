@@ -1,4 +1,4 @@
--- `soundness::lists::any` meets its contract. Invariant: the result is the test over the places passed.
+-- `soundness::queues::any` meets its contract. Invariant: the result is the test over the places passed.
 use native.Mathlib.Omega.{arith}
 use Prim.Native.Nat.{_-_, _≤_}
 use mathlib.Core.Path.{_≡_, refl, _∙_, ap}
@@ -6,8 +6,8 @@ use mathlib.Core.Bool.{false}
 use lib.ListN.{getD}
 use Rattle.laws.specs.Range.{anyTo}
 use Rattle.soundness.proofs.Laws.{any-nothing, any-turn}
-use Rattle.soundness.proofs.lists.any.Statement.{statement}
-use Rattle.soundness.proofs.lists.any.Tie as tie
+use Rattle.soundness.proofs.queues.any.Statement.{statement}
+use Rattle.soundness.proofs.queues.any.Tie as tie
 
 abbrev Inv-loop : tie.InvT-loop
 Inv-loop left some₀ x₀ some x = (some ≡ anyTo (λ x. getD left x false) x) × (x ≤ 32)

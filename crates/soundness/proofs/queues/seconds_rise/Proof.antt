@@ -1,4 +1,4 @@
--- `soundness::lists::seconds_rise` meets its contract. Invariant: the places passed never fall nor pass the clock, and `last` is at most what follows where the whole list never falls.
+-- `soundness::queues::seconds_rise` meets its contract. Invariant: the places passed never fall nor pass the clock, and `last` is at most what follows where the whole list never falls.
 use borrow.Author.Needs.{needs}
 use native.Mathlib.Omega.{arith}
 use Prim.Native.Nat.{_-_, _≤_}
@@ -6,8 +6,8 @@ use mathlib.Core.Path.{_≡_, sym, ap}
 use lib.ListN.{length}
 use Rattle.rules.specs.State.{at}
 use Rattle.soundness.proofs.ListLaws.{Rising, rising-none, rising-more, rising-falls, rising-late, rising-done, place-below}
-use Rattle.soundness.proofs.lists.seconds_rise.Statement.{statement}
-use Rattle.soundness.proofs.lists.seconds_rise.Tie as tie
+use Rattle.soundness.proofs.queues.seconds_rise.Statement.{statement}
+use Rattle.soundness.proofs.queues.seconds_rise.Tie as tie
 
 abbrev Inv-loop : tie.InvT-loop
 Inv-loop arrival clock q count last₀ i₀ last i = Rising (at arrival) clock (q .jobs) (q .count) last i × (i ≤ count)

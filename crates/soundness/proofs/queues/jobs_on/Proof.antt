@@ -1,4 +1,4 @@
--- `soundness::lists::jobs_on` meets its contract. Invariant: the places passed hold the test of their job.
+-- `soundness::queues::jobs_on` meets its contract. Invariant: the places passed hold the test of their job.
 use native.Mathlib.Omega.{arith}
 use Prim.Native.Nat.{ℕ, _-_, _≤_, _<_}
 use mathlib.Core.Path.{_≡_, refl, _∙_}
@@ -8,8 +8,8 @@ use lib.Dec.{eqb}
 use Rattle.rules.specs.State.{at}
 use lib.ListN.{length-replicate}
 use Rattle.soundness.proofs.Laws.{fill-turn}
-use Rattle.soundness.proofs.lists.jobs_on.Statement.{statement}
-use Rattle.soundness.proofs.lists.jobs_on.Tie as tie
+use Rattle.soundness.proofs.queues.jobs_on.Statement.{statement}
+use Rattle.soundness.proofs.queues.jobs_on.Tie as tie
 
 abbrev Inv-loop : tie.InvT-loop
 Inv-loop present transport t on₀ j₀ on j = (j ≤ 32) × (length on ≡ 32) × ((i : ℕ) → i < j → getD on i false ≡ getD present i false && eqb (at transport i) t)

@@ -1,4 +1,4 @@
--- `soundness::lists::each_once` meets its contract. Invariant: the table has the jobs that were not met in the places passed.
+-- `soundness::queues::each_once` meets its contract. Invariant: the table has the jobs that were not met in the places passed.
 use borrow.Author.Needs.{needs}
 use native.Mathlib.Omega.{arith}
 use Prim.Native.Nat.{_-_, _≤_}
@@ -9,8 +9,8 @@ use lib.Dec.{leb}
 use borrow.Author.Tests.{not-true, not-false, lt-leb}
 use Rattle.laws.proofs.Choice.{and-left-false, and-right-false}
 use Rattle.soundness.proofs.ListLaws.{Left, left-none, left-more, left-out, left-gone, once-tested}
-use Rattle.soundness.proofs.lists.each_once.Statement.{statement}
-use Rattle.soundness.proofs.lists.each_once.Tie as tie
+use Rattle.soundness.proofs.queues.each_once.Statement.{statement}
+use Rattle.soundness.proofs.queues.each_once.Tie as tie
 
 abbrev Inv-loop : tie.InvT-loop
 Inv-loop q count left₀ i₀ left i = Left (λ x. getD left₀ x false) (q .jobs) i left × (i ≤ count)
