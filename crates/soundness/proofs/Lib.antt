@@ -1,3 +1,4 @@
+pub mod Counted
 pub mod JobLaws
 pub mod Laws
 pub mod ListLaws
@@ -5,5 +6,6 @@ pub mod OrderLaws
 pub mod PairLaws
 pub mod Parts
 pub mod Ranges
-pub mod TallyLaws
 pub mod Shapes
+pub mod TallyLaws
+pub mod Whole

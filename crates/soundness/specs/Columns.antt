@@ -1,4 +1,4 @@
--- "Sound means", clause by clause, over the columns that the code reads. proofs/Parts.antt has what each says of a whole state.
+-- "Sound means", clause by clause, over the columns that the code reads. proofs/Parts.antt and proofs/Whole.antt have what they say of a whole state.
 use Prim.Native.Nat.{ℕ, zero, suc, _+_, _*_, _≤_, _<_}
 use mathlib.Core.Path.{_≡_}
 use mathlib.Core.Bool.{Bool, true, false, _&&_, _||_}
