@@ -23,7 +23,7 @@ use Rattle.lists.proofs.Building.{put-at, keep-put, keep-skip, length-keep-take
 use Rattle.rules.specs.State.{at}
 use Rattle.rules.specs.Calls.{written}
 use Rattle.rules.specs.Taking.{filled}
-use Rattle.taking.specs.declared.Parts.{Parts}
+use Rattle.taking.specs.declared.new_job.Parts.{Parts}
 use Rattle.taking.specs.Columns.{keptBy, putOffBy, Parted}
 
 -- Chosen numbers.

@@ -10,7 +10,7 @@ use Rattle.laws.specs.Sequence.{keep, padded}
 use Rattle.rules.specs.declared.Destination.{Destination}
 use Rattle.rules.specs.State.{at, zeroDestination, isLive}
 use Rattle.rules.specs.Calls.{written}
-use Rattle.taking.specs.declared.Parts.{Parts}
+use Rattle.taking.specs.declared.new_job.Parts.{Parts}
 
 -- `isDead`, of the destinations
 unfoldable pub deadOn : List Destination → ℕ → Bool

@@ -8,8 +8,8 @@ use lib.ListN.{length, length-append, length-drop}
 use Rattle.laws.specs.Range.{chosenTo}
 use Rattle.laws.specs.Sequence.{padded, keep}
 use Rattle.taking.proofs.Passes.{Parting, parting-found, parting-count, parting-length, parting-dead, parting-live, parted}
-use Rattle.taking.proofs.split.Statement.{statement}
-use Rattle.taking.proofs.split.Tie as tie
+use Rattle.taking.proofs.new_job.split.Statement.{statement}
+use Rattle.taking.proofs.new_job.split.Tie as tie
 
 abbrev Inv-loop : tie.InvT-loop
 Inv-loop dests dead list₀ kept₀ n₀ m₀ i₀ list kept n m i = Parting dead dests list₀ list kept n m i

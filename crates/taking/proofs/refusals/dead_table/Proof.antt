@@ -8,8 +8,8 @@ use lib.ListN.{length, drop, set}
 use Rattle.laws.specs.Range.{tableTo}
 use Rattle.laws.proofs.Table.{table-drop-step, table-full}
 use Rattle.taking.specs.Columns.{deadOn}
-use Rattle.taking.proofs.dead_table.Statement.{statement}
-use Rattle.taking.proofs.dead_table.Tie as tie
+use Rattle.taking.proofs.refusals.dead_table.Statement.{statement}
+use Rattle.taking.proofs.refusals.dead_table.Tie as tie
 
 abbrev Inv-loop : tie.InvT-loop
 Inv-loop ds dead₀ d₀ dead d = (dead ≡ tableTo (deadOn ds) d ++ drop d dead₀) × (d ≤ 32) × (length dead₀ ≡ 32)

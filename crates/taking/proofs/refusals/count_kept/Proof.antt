@@ -11,8 +11,8 @@ use Rattle.laws.specs.Sequence.{keep}
 use Rattle.rules.specs.State.{at}
 use Rattle.lists.proofs.Building.{keep-more, keep-fewer, length-keep-take, length-snoc}
 use Rattle.taking.specs.Columns.{keptBy}
-use Rattle.taking.proofs.count_kept.Statement.{statement}
-use Rattle.taking.proofs.count_kept.Tie as tie
+use Rattle.taking.proofs.refusals.count_kept.Statement.{statement}
+use Rattle.taking.proofs.refusals.count_kept.Tie as tie
 
 abbrev Inv-loop : tie.InvT-loop
 Inv-loop dests dead n₀ i₀ n i = (i ≤ length dests) × (n ≡ length (keep (λ d. not (getD dead d false)) (take i dests)))

@@ -3,8 +3,8 @@ use borrow.Author.Needs.{needs}
 use mathlib.Core.Path.{sym, ap}
 use mathlib.Core.Bool.{not}
 use Rattle.rules.specs.State.{isLive}
-use Rattle.taking.proofs.is_dead.Statement.{statement}
-use Rattle.taking.proofs.is_dead.Tie as tie
+use Rattle.taking.proofs.refusals.is_dead.Statement.{statement}
+use Rattle.taking.proofs.refusals.is_dead.Tie as tie
 
 enum-told : tie.Need-enum-told
 enum-told c = search needs

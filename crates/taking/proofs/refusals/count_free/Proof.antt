@@ -8,8 +8,8 @@ use borrow.Author.Tests.{eq-eqb, ne-eqb}
 use Rattle.laws.specs.Range.{countTo}
 use Rattle.laws.proofs.Count.{count-hit, count-miss, count-le-bound}
 use Rattle.taking.specs.Columns.{freeIn}
-use Rattle.taking.proofs.count_free.Statement.{statement}
-use Rattle.taking.proofs.count_free.Tie as tie
+use Rattle.taking.proofs.refusals.count_free.Statement.{statement}
+use Rattle.taking.proofs.refusals.count_free.Tie as tie
 
 abbrev Inv-loop : tie.InvT-loop
 Inv-loop kind n₀ e₀ n e = (e ≤ 512) × (n ≡ countTo (freeIn kind) e)

@@ -17,8 +17,8 @@ use Rattle.lists.proofs.Building.{put-at}
 use Rattle.rules.specs.State.{at}
 use Rattle.taking.specs.Columns.{freeIn}
 use Rattle.taking.proofs.Passes.{chosen-more, chosen-skip, chosen-prefix}
-use Rattle.taking.proofs.free_places.Statement.{statement}
-use Rattle.taking.proofs.free_places.Tie as tie
+use Rattle.taking.proofs.new_job.free_places.Statement.{statement}
+use Rattle.taking.proofs.new_job.free_places.Tie as tie
 
 abbrev Inv-loop : tie.InvT-loop
 Inv-loop kind n places₀ m₀ e₀ places m e = (places ≡ padded 256 (chosenTo (freeIn kind) e)) × (m ≡ countTo (freeIn kind) e) × (e ≤ 512) × (m ≤ n)

@@ -6,8 +6,8 @@ use native.Mathlib.Numerals.{add-one}
 use native.Mathlib.Omega.{arith}
 use lib.ListN.{length}
 use lib.Seq.{paste, paste-zero, paste-suc}
-use Rattle.taking.proofs.set_order.Statement.{statement}
-use Rattle.taking.proofs.set_order.Tie as tie
+use Rattle.taking.proofs.new_job.set_order.Statement.{statement}
+use Rattle.taking.proofs.new_job.set_order.Tie as tie
 
 abbrev Inv-loop : tie.InvT-loop
 Inv-loop column₀ j order base i₀ column i = (column ≡ paste column₀ (32 * j) order i) × (i ≤ 32)

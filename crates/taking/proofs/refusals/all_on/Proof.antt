@@ -13,8 +13,8 @@ use Rattle.laws.proofs.Sequence.{every-getD, every-from-getD}
 use Rattle.rules.specs.State.{at}
 use Rattle.taking.proofs.Passes.{every-fails}
 use Rattle.taking.specs.Columns.{onTransport}
-use Rattle.taking.proofs.all_on.Statement.{statement}
-use Rattle.taking.proofs.all_on.Tie as tie
+use Rattle.taking.proofs.refusals.all_on.Statement.{statement}
+use Rattle.taking.proofs.refusals.all_on.Tie as tie
 
 abbrev Inv-loop : tie.InvT-loop
 Inv-loop home count t dests i₀ i = (i ≤ length dests) × ((k : ℕ) → k < i → onTransport home count t (at dests k) ≡ true)

@@ -8,8 +8,8 @@ use Rattle.laws.specs.Range.{foldTo}
 use Rattle.rules.specs.State.{at}
 use Rattle.rules.specs.Taking.{filled}
 use Rattle.taking.proofs.Passes.{filled-more}
-use Rattle.taking.proofs.fill_from.Statement.{statement}
-use Rattle.taking.proofs.fill_from.Tie as tie
+use Rattle.taking.proofs.new_job.fill_from.Statement.{statement}
+use Rattle.taking.proofs.new_job.fill_from.Tie as tie
 
 abbrev Inv-loop : tie.InvT-loop
 Inv-loop column₀ places n values i₀ column i = (column ≡ filled places (at values) i column₀) × (i ≤ n)

@@ -8,8 +8,8 @@ use lib.ListN.{getD}
 use borrow.Author.Tests.{not-true, not-false}
 use borrow.Author.Count.{below-more}
 use Rattle.laws.proofs.First.{first-unique, first-none}
-use Rattle.taking.proofs.first_absent.Statement.{statement}
-use Rattle.taking.proofs.first_absent.Tie as tie
+use Rattle.taking.proofs.refusals.first_absent.Statement.{statement}
+use Rattle.taking.proofs.refusals.first_absent.Tie as tie
 
 abbrev Inv-loop : tie.InvT-loop
 Inv-loop present j₀ j = (j ≤ 32) × ((k : ℕ) → k < j → not (getD present k false) ≡ false)

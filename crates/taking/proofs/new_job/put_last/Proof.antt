@@ -4,8 +4,8 @@ use Prim.Native.Nat.{_≤_, _<_}
 use mathlib.Core.Path.{_≡_}
 use native.Mathlib.Omega.{arith}
 use lib.ListN.{length, length-take}
-use Rattle.taking.proofs.put_last.Statement.{statement}
-use Rattle.taking.proofs.put_last.Tie as tie
+use Rattle.taking.proofs.new_job.put_last.Statement.{statement}
+use Rattle.taking.proofs.new_job.put_last.Tie as tie
 
 append-requires : tie.Need-append-requires
 append-requires c κs =

@@ -11,8 +11,8 @@ use Rattle.laws.specs.Sequence.{padded, holds, firstsTo}
 use Rattle.laws.proofs.Firsts.{firsts-length}
 use Rattle.rules.specs.State.{at}
 use Rattle.taking.proofs.Passes.{Seen, seen-none, seen-room, seen-new, seen-again}
-use Rattle.taking.proofs.firsts.Statement.{statement}
-use Rattle.taking.proofs.firsts.Tie as tie
+use Rattle.taking.proofs.new_job.firsts.Statement.{statement}
+use Rattle.taking.proofs.new_job.firsts.Tie as tie
 
 abbrev Inv-loop : tie.InvT-loop
 Inv-loop kept n seen₀ places₀ m₀ i₀ seen places m i = Seen kept seen places m i × (i ≤ n)

@@ -8,8 +8,8 @@ use Rattle.laws.specs.Range.{foldTo}
 use Rattle.rules.specs.State.{at}
 use Rattle.rules.specs.Taking.{filled}
 use Rattle.taking.proofs.Passes.{filled-more}
-use Rattle.taking.proofs.fill_same.Statement.{statement}
-use Rattle.taking.proofs.fill_same.Tie as tie
+use Rattle.taking.proofs.new_job.fill_same.Statement.{statement}
+use Rattle.taking.proofs.new_job.fill_same.Tie as tie
 
 abbrev Inv-loop : tie.InvT-loop
 Inv-loop column₀ places n v i₀ column i = (column ≡ filled places (λ k. v) i column₀) × (i ≤ n)
