@@ -59,12 +59,11 @@ def block(pub: str, name: str, text: str) -> str:
 
 
 def placed(crate: str, text: str) -> str:
-    """Paths of a crate as paths of the one file. A crate's own module may have the name of another crate."""
+    """Paths of a crate as paths of the one file. No module has the name of one of these crates."""
     if crate:
         text = re.sub(r"\bcrate::", f"crate::{crate}::", text)
-    own = re.findall(r"(?m)^(?:pub )?mod (\w+) ", text)
     for other in CRATES:
-        if other != crate and other not in own:
+        if other != crate:
             text = re.sub(rf"(?<![\w:]){other}::(?=\w)", f"crate::{other}::", text)
     return text.replace("std::num::wrapping_add_u32", "crate::wrapping_add_u32")
 
