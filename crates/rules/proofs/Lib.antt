@@ -20,6 +20,7 @@ pub mod SimRows
 pub mod SimPick
 pub mod SimChain
 pub mod SimTally
+pub mod SimOvertaking
 pub mod SimPreempt
 pub mod SimPicking
 pub mod Filled
