@@ -31,7 +31,8 @@ use Rattle.rules.specs.Pick.{handedOut, pickFrom, pickWith, pickOn, picking}
 use Rattle.rules.specs.Refusals.{pickRefusal}
 use Rattle.rules.specs.Calls.{answers, pickingReply, afterPick}
 use Rattle.rules.proofs.Shape.{Shaped}
-use Rattle.rules.proofs.Soundness.{sound-facts, in-range-of}
+use Rattle.rules.proofs.RangeFacts.{in-range-of}
+use Rattle.rules.proofs.Soundness.{sound-facts}
 use Rattle.rules.proofs.EntryFacts.{present-below, waiting-used}
 use Rattle.rules.proofs.Accepted.{pick-accepted}
 use Rattle.rules.proofs.KeptWaking.{kept-woken}

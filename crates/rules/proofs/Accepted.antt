@@ -19,7 +19,7 @@ use Rattle.rules.specs.Sound.{sound}
 use Rattle.rules.specs.Windows.{woken}
 use Rattle.rules.specs.Taking.{nOf}
 use Rattle.rules.specs.Refusals.{badClock, isDestinationOn, lacksNumber, lacksPlaces, isBusyWith, jobRefusal, pickRefusal, reportRefusal}
-use Rattle.rules.proofs.Soundness.{within-facts}
+use Rattle.rules.proofs.RangeFacts.{within-facts}
 use Rattle.rules.proofs.Taken.{Passed}
 
 -- a test that refuses with k has not held, where the refusal is 0

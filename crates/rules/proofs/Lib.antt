@@ -12,6 +12,8 @@ pub mod Preemptor
 pub mod Refused
 pub mod Rows
 pub mod Shape
+pub mod RangeFacts
+pub mod JobFacts
 pub mod Soundness
 pub mod Turns
 pub mod Sim

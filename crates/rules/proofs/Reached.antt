@@ -20,7 +20,7 @@ use Rattle.rules.specs.Reporting.{reporting}
 use Rattle.rules.specs.Tally.{Tally, noTally, tallied}
 use Rattle.rules.specs.Run.{stateFrom, stateAfter, decisionsFrom, talliedAll, tallyOf}
 use Rattle.rules.proofs.Shape.{Shaped}
-use Rattle.rules.proofs.Soundness.{in-range-facts}
+use Rattle.rules.proofs.RangeFacts.{in-range-facts}
 use Rattle.rules.proofs.KeptFresh.{kept-fresh}
 use Rattle.rules.proofs.KeptWaking.{kept-woken}
 use Rattle.rules.proofs.Taken.{Passed, fits-of}

@@ -18,7 +18,7 @@ use Rattle.rules.specs.Setup.{within, feedbackInRange, slotsInRange, win
 use Rattle.rules.specs.SoundFacts.{LiveSound}
 use Rattle.rules.specs.Windows.{feedback, cohortShare, isDeadAt, raised, lowered, liveAfterSuccess, afterSuccess, liveAfterFailure}
 use Rattle.rules.specs.Windows.{afterFailure}
-use Rattle.rules.proofs.Soundness.{within-facts}
+use Rattle.rules.proofs.RangeFacts.{within-facts}
 
 -- what settings in range say of windows
 pub record WindowsRange (g : Settings) : Type 0 where

@@ -6,8 +6,7 @@ use mathlib.Core.List.{List}
 use lib.Dec.{eqb}
 use Rattle.laws.specs.Range.{countTo}
 use Rattle.rules.specs.declared.State.{State}
-use Rattle.rules.specs.State.{at, isWaiting}
-use Rattle.rules.specs.State.{destinationOf, waitsOf, busyOf, waitingOf}
+use Rattle.rules.specs.State.{at, isWaiting, destinationOf, waitsOf, busyOf, waitingOf}
 use Rattle.rules.specs.Sound.{busyOn, busyTo}
 use Rattle.soundness.specs.declared.Tally.{Tally}
 use Rattle.soundness.specs.Columns.{Columns, columns, tallyTo, Tables}

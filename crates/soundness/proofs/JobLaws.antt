@@ -14,7 +14,7 @@ use Rattle.rules.specs.declared.Settings.{Settings}
 use Rattle.rules.specs.declared.Jobs.{Jobs}
 use Rattle.rules.specs.State.{at, zeroSettings}
 use Rattle.rules.specs.Sound.{implies}
-use Rattle.rules.proofs.Soundness.{implies-at, implies-of}
+use Rattle.rules.proofs.RangeFacts.{implies-at, implies-of}
 use Rattle.soundness.specs.Columns.{countsTest, soldTest, childTest, jobTest}
 
 module _ (cost sold n : ℕ) where

@@ -18,7 +18,7 @@ use Rattle.laws.proofs.Count.{count-step, count-none, count-any, count-more}
 use Rattle.laws.proofs.Sequence.{every-at, every-from, times-positive}
 use Rattle.rules.specs.State.{at}
 use Rattle.rules.specs.Sound.{implies}
-use Rattle.rules.proofs.Soundness.{implies-at, implies-of}
+use Rattle.rules.proofs.RangeFacts.{implies-at, implies-of}
 use Rattle.soundness.specs.Columns.{orderList, distinct, orderTest, Marked, OrdersMarked}
 use Rattle.soundness.proofs.Laws.{holds-table, times-table, all-more}
 

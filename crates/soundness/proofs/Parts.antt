@@ -24,7 +24,8 @@ use Rattle.rules.specs.State.{jobOf, destinationOf, isPresent, hasPreempted, wa
 use Rattle.rules.specs.Setup.{setupInRange}
 use Rattle.rules.specs.Sound.{implies, isJobOn, orderOf, costOf, sound}
 use Rattle.rules.specs.SoundFacts.{EntrySound, ChildOf, DestinationSound}
-use Rattle.rules.proofs.Soundness.{within-of, implies-of, in-range-of, sound-facts}
+use Rattle.rules.proofs.RangeFacts.{within-of, implies-of, in-range-of}
+use Rattle.rules.proofs.Soundness.{sound-facts}
 use Rattle.soundness.specs.declared.Tally.{Tally}
 use Rattle.soundness.specs.Columns.{orderList, distinct, orderTest, belongsTest, entryTest, Tables, countsTest, soldTest, childTest, jobTest}
 use Rattle.soundness.specs.Columns.{queueTest, healthTest, destinationTest}

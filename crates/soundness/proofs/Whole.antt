@@ -24,7 +24,8 @@ use Rattle.rules.specs.State.{jobOf, destinationOf, isPresent, hasPreempted, wa
 use Rattle.rules.specs.Setup.{within, setupInRange}
 use Rattle.rules.specs.Sound.{implies, isJobOn, orderOf, costOf, sound}
 use Rattle.rules.specs.SoundFacts.{InRange, EntrySound, QueueSound, ArrivalsSound, ChildOf, JobSound, DestinationSound}
-use Rattle.rules.proofs.Soundness.{within-facts, implies-at, in-range-facts, sound-of}
+use Rattle.rules.proofs.RangeFacts.{within-facts, implies-at, in-range-facts}
+use Rattle.rules.proofs.Soundness.{sound-of}
 use Rattle.soundness.specs.declared.Tally.{Tally}
 use Rattle.soundness.specs.Columns.{orderList, distinct, orderTest, belongsTest, entryTest, Tables, countsTest, soldTest, childTest, jobTest}
 use Rattle.soundness.specs.Columns.{queueTest, healthTest, destinationTest}

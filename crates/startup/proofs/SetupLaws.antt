@@ -18,7 +18,7 @@ use Rattle.rules.specs.declared.Health.the-variants.{Live}
 use Rattle.rules.specs.declared.Destination.{Destination}
 use Rattle.rules.specs.State.{at, zeroSettings, zeroDestination}
 use Rattle.rules.specs.Setup.{within, settingsInRange, setupInRange, firstState, firstDestination}
-use Rattle.rules.proofs.Soundness.{within-facts}
+use Rattle.rules.proofs.RangeFacts.{within-facts}
 use Rattle.window.proofs.Fill.{table-rest}
 
 module _ (u : Setup) (a b : Bool) (ea : a ≡ within 1 4 (u .transports)) (eb : b ≡ within 1 32 (u .destinations)) where

@@ -5,7 +5,8 @@ use mathlib.Core.Path.{_≡_, refl, sym, ap, _∙_}
 use native.Mathlib.Omega.{arith}
 use lib.ListN.{length}
 use borrow.Author.Tests.{not-true, not-false}
-use Rattle.rules.proofs.Soundness.{sound-facts, in-range-of}
+use Rattle.rules.proofs.RangeFacts.{in-range-of}
+use Rattle.rules.proofs.Soundness.{sound-facts}
 use Rattle.taking.proofs.Refusing.{small-of, counted-is, number-is, free-is, refuses-early, refuses-late, refuses-transport, refuses-none, refuses-many, refuses-other}
 use Rattle.taking.proofs.Refusing.{refuses-number, refuses-places, refuses-list, refuses-nothing}
 use Rattle.taking.proofs.refusal.Statement.{statement}

@@ -9,7 +9,8 @@ use Rattle.rules.specs.State.{at}
 use Rattle.rules.specs.Windows.{woken}
 use Rattle.laws.specs.Sequence.{padded}
 use Rattle.rules.specs.Taking.{keptOf, newNumber, newOrder, taken}
-use Rattle.rules.proofs.Soundness.{sound-facts, in-range-of}
+use Rattle.rules.proofs.RangeFacts.{in-range-of}
+use Rattle.rules.proofs.Soundness.{sound-facts}
 use Rattle.rules.proofs.Accepted.{job-accepted}
 use Rattle.laws.proofs.Sequence.{length-padded, getD-padded}
 use Rattle.taking.proofs.Refusing.{number-is}

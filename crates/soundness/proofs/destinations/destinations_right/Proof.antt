@@ -9,7 +9,7 @@ use Rattle.laws.proofs.All.{all-false-of}
 use Rattle.rules.specs.State.{at}
 use Rattle.soundness.specs.Columns.{destinationTest}
 use Rattle.soundness.proofs.Laws.{all-none, all-more}
-use Rattle.rules.proofs.Soundness.{home-below}
+use Rattle.rules.proofs.RangeFacts.{home-below}
 use Rattle.soundness.proofs.Ranges.{destinations-few, cohorts-few}
 use Rattle.soundness.proofs.destinations.destinations_right.Statement.{statement}
 use Rattle.soundness.proofs.destinations.destinations_right.Tie as tie

@@ -1,0 +1,85 @@
+-- Tests of ranges and the facts that they say: numbers within limits, a set-up, a live destination's numbers.
+use Prim.Native.Nat.{ℕ, _*_, _≤_, _<_}
+use mathlib.Core.Path.{_≡_, refl}
+use mathlib.Core.Bool.{Bool, true, false}
+use native.Mathlib.Nat.{lt-of-lt-of-le}
+use lib.ListN.{getD}
+use lib.Dec.{ltb, leb}
+use borrow.Author.Tests.{ltb-true, leb-true, lt-ltb, le-leb}
+use Rattle.laws.specs.Range.{allTo}
+use Rattle.laws.proofs.Choice.{true-not-false, and-both, and-left, and-right}
+use Rattle.laws.proofs.Both.{and-4}
+use Rattle.laws.proofs.All.{all-at, all-from}
+use Rattle.rules.specs.declared.Settings.{Settings}
+use Rattle.rules.specs.declared.Setup.{Setup}
+use Rattle.rules.specs.declared.Sums.{Sums}
+use Rattle.rules.specs.Sizes.{U, maxTransports, maxDestinations}
+use Rattle.rules.specs.State.{at, zeroSettings}
+use Rattle.rules.specs.Setup.{within, setupInRange, settingsInRange}
+use Rattle.rules.specs.Sound.{implies, sumsFit}
+use Rattle.rules.specs.SoundFacts.{InRange, LiveSound}
+
+pub within-facts : {low high x : ℕ} → within low high x ≡ true → (low ≤ x) × (x ≤ high)
+unfolding within
+within-facts {low} {high} {x} h = (leb-true low x (and-left _ (leb x high) h), leb-true x high (and-right (leb low x) _ h))
+
+pub within-of : {low high x : ℕ} → (low ≤ x) × (x ≤ high) → within low high x ≡ true
+unfolding within
+within-of {low} {high} {x} h = and-both (le-leb low x (h .0)) (le-leb x high (h .1))
+
+pub implies-at : {a b : Bool} → implies a b ≡ true → a ≡ true → b ≡ true
+unfolding implies
+implies-at {a = true} h t = h
+implies-at {a = false} h t = true-not-false t refl
+
+pub implies-of : (a : Bool) {b : Bool} → (a ≡ true → b ≡ true) → implies a b ≡ true
+unfolding implies
+implies-of true h = h refl
+implies-of false h = refl
+
+-- Set-up.
+
+module _ (u : Setup) where
+  pub in-range-facts : setupInRange u ≡ true → InRange u
+  unfolding setupInRange
+  in-range-facts h =
+      let f =
+      and-4 (within 1 maxTransports (u .transports)) (within 1 maxDestinations (u .destinations)) (allTo (λ t. settingsInRange (getD (u .settings) t zeroSettings)) (u .transports))
+      (allTo (λ d. ltb (at (u .home) d) (u .transports)) (u .destinations)) h in
+      record {
+        transports = within-facts (f .0);
+        destinations = within-facts (f .1);
+        settings = all-at (λ t. settingsInRange (getD (u .settings) t zeroSettings)) (u .transports) (f .2);
+        home = λ d l. ltb-true (at (u .home) d) (u .transports) (all-at (λ d. ltb (at (u .home) d) (u .transports)) (u .destinations) (f .3) d l);
+      }
+
+  pub in-range-of : InRange u → setupInRange u ≡ true
+  unfolding setupInRange
+  in-range-of r =
+      and-both
+      (and-both (and-both (within-of (r .transports)) (within-of (r .destinations))) (all-from (λ t. settingsInRange (getD (u .settings) t zeroSettings)) (u .transports) (r .settings)))
+      (all-from (λ d. ltb (at (u .home) d) (u .transports)) (u .destinations) λ d l. lt-ltb (at (u .home) d) (u .transports) (r .home d l))
+
+  -- a destination's transport is one of the four
+  pub home-below : setupInRange u ≡ true → (d : ℕ) → d < u .destinations → at (u .home) d < maxTransports
+  home-below h d l = let r = in-range-facts h in lt-of-lt-of-le (r .home d l) (r .transports .1)
+
+-- A live destination.
+
+module _ (g : Settings) (u : Sums) where
+  pub sums-fit-facts : sumsFit g u ≡ true → LiveSound g u
+  unfolding sumsFit
+  sums-fit-facts h =
+      let f = and-4 (within 1 (g .limit) (u .window)) (ltb (u .success) U) (ltb (u .failure) U) (leb (u .cohorts) (g .cohortlimit * U)) h in
+      record {
+        window = within-facts (f .0);
+        success = ltb-true (u .success) U (f .1);
+        failure = ltb-true (u .failure) U (f .2);
+        cohorts = leb-true (u .cohorts) (g .cohortlimit * U) (f .3);
+      }
+
+  pub sums-fit-of : LiveSound g u → sumsFit g u ≡ true
+  unfolding sumsFit
+  sums-fit-of r =
+      and-both (and-both (and-both (within-of (r .window)) (lt-ltb (u .success) U (r .success))) (lt-ltb (u .failure) U (r .failure)))
+      (le-leb (u .cohorts) (g .cohortlimit * U) (r .cohorts))
