@@ -19,6 +19,7 @@ MAIN = """fn main() {
         "sound" => loads::sound(n),
         "pick" => loads::pick(n / 4),
         "report" => loads::report(n / 4),
+        "death" => deaths::death(n),
         "turn" => loads::turn(n),
         "job" => loads::job(n),
         "ask" => loads::ask(n),
@@ -69,5 +70,5 @@ def placed(crate: str, text: str) -> str:
 
 
 parts = [block("pub ", c, placed(c, inlined(Path(f"crates/{c}/src/lib.rt")))) for c in CRATES]
-parts += [block("", m, placed("", inlined(Path(f"crates/measure/src/{m}.rt")))) for m in ("loads", "scene")]
+parts += [block("", m, placed("", inlined(Path(f"crates/measure/src/{m}.rt")))) for m in ("deaths", "loads", "scene")]
 print(HEAD + "".join(parts) + MAIN, end="")
