@@ -22,7 +22,7 @@ use Rattle.rules.specs.Windows.{wokenHealth, wokenAt, woken}
 use Rattle.rules.specs.Sound.{busyOn, busyTo, isJobOn, orderOf}
 use Rattle.rules.specs.SoundFacts.{LiveSound, DestinationSound, Sound}
 use Rattle.rules.proofs.Shape.{Shaped}
-use Rattle.rules.proofs.KeptRanges.{initial-range}
+use Rattle.rules.proofs.WindowLaws.{windows-range}
 
 pub woken-health : (s : State) (now d : ℕ) → d < s .setup .destinations → d < maxDestinations → healthOf (woken s now) d ≡ wokenHealth (settingsFor s d) now (healthOf s d)
 unfolding woken wokenAt
@@ -59,7 +59,7 @@ kept-destination s now h d l =
     let m : d < maxDestinations = omega (arith, h .setup .destinations .1) in
     let e = woken-health s now d l m in
     record {
-      live = λ u q. woken-live (settingsFor s d) now (healthOf s d) (initial-range (settingsFor s d) (h .setup .settings (transportOf s d) (h .setup .home d l))) (k .live) u (sym e ∙ q);
+      live = λ u q. woken-live (settingsFor s d) now (healthOf s d) (windows-range (settingsFor s d) (h .setup .settings (transportOf s d) (h .setup .home d l)) .initial) (k .live) u (sym e ∙ q);
       dead = λ end q. k .dead end (woken-dead (settingsFor s d) now (healthOf s d) end (sym e ∙ q));
     }
 

@@ -1,13 +1,13 @@
 -- The windows' arithmetic keeps a live destination in its ranges.
 use Prim.Native.Nat.{ℕ, _+_, _*_, _≤_, _<_}
 use mathlib.Core.Path.{_≡_, refl, subst}
-use mathlib.Core.Bool.{true, _&&_}
+use mathlib.Core.Bool.{true}
 use native.Mathlib.Nat.{div-le-of-le-mul}
 use native.Mathlib.Omega.{arith}
 use lib.Dec.{eqb, ltb, leb}
 use borrow.Author.Tests.{ltb-true, ltb-false, leb-true, leb-false}
 use Rattle.laws.proofs.Choice.{if-cases, and-left, and-right}
-use Rattle.laws.proofs.Both.{and-4}
+use Rattle.laws.proofs.Tests.{and-6}
 use Rattle.rules.specs.declared.Feedback.{Feedback}
 use Rattle.rules.specs.declared.Settings.{Settings}
 use Rattle.rules.specs.declared.Sums.{Sums}
@@ -32,23 +32,16 @@ pub record WindowsRange (g : Settings) : Type 0 where
 pub windows-range : (g : Settings) → settingsInRange g ≡ true → WindowsRange g
 unfolding settingsInRange windowsInRange
 windows-range g h =
-    let a = within 1 20 (g .limit) in
-    let b = within 1 (g .limit) (g .initial) in
-    let c = feedbackInRange (g .positive) in
-    let d = feedbackInRange (g .negative) in
-    let e = within 1 100 (g .cohortlimit) in
-    let f = within 1 86_400 (g .suspension) in
-    let z = and-right (slotsInRange g) (windowsInRange g) h in
-    let y = and-left (a && b && c && d && e) f z in
-    let x = and-left (a && b && c && d) e y in
-    let k = and-4 a b c d x in
+    let k =
+    and-6 (within 1 20 (g .limit)) (within 1 (g .limit) (g .initial)) (feedbackInRange (g .positive)) (feedbackInRange (g .negative)) (within 1 100 (g .cohortlimit)) (within 1 86_400 (g .suspension))
+    (and-right (slotsInRange g) (windowsInRange g) h) in
     record {
       limit = within-facts (k .0);
       initial = within-facts (k .1);
       positive = k .2;
       negative = k .3;
-      cohortlimit = within-facts (and-right (a && b && c && d) e y);
-      suspension = within-facts (and-right (a && b && c && d && e) f z);
+      cohortlimit = within-facts (k .4);
+      suspension = within-facts (k .5);
     }
 
 -- Feedback is at most 1.
