@@ -8,8 +8,8 @@ use lib.ListN.{length, set, length-append}
 use lib.Dec.{ltb}
 use borrow.Author.Tests.{lt-ltb, le-ltb}
 use Rattle.laws.proofs.Choice.{if-true, if-false, if-cases}
-use Rattle.board.specs.Wrote.{Wrote}
-use Rattle.board.proofs.Writing.{wrote-none, wrote-one, wrote-length}
+use Rattle.laws.specs.Wrote.{Wrote}
+use Rattle.laws.proofs.Writing.{wrote-none, wrote-one, wrote-length}
 use Rattle.rules.specs.Board.{decimalIn, decimal}
 
 -- 10 to the power n + 1

@@ -17,8 +17,8 @@ use Rattle.rules.specs.Board.{decimal, healthText, clockLine, destinationLine, 
 use Rattle.board.proofs.Decimals.{decimal-length}
 use Rattle.board.specs.Text.{liveText, deadText}
 use Rattle.rules.specs.Board.{linesOf, textOf}
-use Rattle.board.specs.Wrote.{Wrote}
-use Rattle.board.proofs.Writing.{wrote-as, wrote-again, wrote-since, wrote-length, behind, start-fits, rest-fits}
+use Rattle.laws.specs.Wrote.{Wrote}
+use Rattle.laws.proofs.Writing.{wrote-as, wrote-again, wrote-since, wrote-length, behind, start-fits, rest-fits}
 use borrow.Rule.Slice.PartMut.{midOf, putMid}
 
 pub text-is : (s : State) → textOf (s .clock) (s .setup .destinations) (s .destinations) (s .busy .destination) ≡ boardText s

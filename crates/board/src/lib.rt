@@ -8,7 +8,7 @@ ghost use mathlib.Core.List.{_++_};
 ghost use Rattle.rules.specs.Board.{decimal, clockLine, healthText, destinationLine};
 ghost use Rattle.board.specs.Text.{liveText, deadText};
 ghost use Rattle.rules.specs.Board.{textOf};
-ghost use Rattle.board.specs.Wrote.{Wrote};
+ghost use Rattle.laws.specs.Wrote.{Wrote};
 
 // Puts a word at the front of a buffer that has room for it.
 fn put(word: &[u8], buf: &mut [u8]) -> usize

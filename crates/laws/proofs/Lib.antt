@@ -7,6 +7,7 @@ pub mod Falling
 pub mod First
 pub mod Firsts
 pub mod Found
+pub mod Front
 pub mod Index
 pub mod Keep
 pub mod Move
@@ -18,6 +19,7 @@ pub mod Table
 pub mod Both
 pub mod Sum
 pub mod Update
+pub mod Writing
 pub mod Onto
 pub mod Tests
 pub mod ChainAmong

@@ -6,3 +6,4 @@ pub mod Order
 pub mod Range
 pub mod Sequence
 pub mod Update
+pub mod Wrote

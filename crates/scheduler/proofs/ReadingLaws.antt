@@ -10,8 +10,8 @@ use borrow.Rule.Slice.PartMut.{putMid}
 use Rattle.rules.specs.declared.State.{State}
 use Rattle.rules.specs.Calls.{Reply, Call, replyTo}
 use Rattle.rules.specs.Run.{stateFrom}
-use Rattle.board.specs.Wrote.{Wrote}
-use Rattle.board.proofs.Writing.{wrote-length, back-is, beside}
+use Rattle.laws.specs.Wrote.{Wrote}
+use Rattle.laws.proofs.Writing.{wrote-length, back-is, beside}
 use Rattle.scheduler.specs.Layout.{sizeOf, listPlaces, textPlaces, callOf, rowLength, endBefore, Reading, thenRead, reading}
 use Rattle.scheduler.specs.Runs.{gathered}
 use Rattle.scheduler.proofs.LayoutLaws.{end-none}

@@ -10,8 +10,8 @@ use borrow.Rule.Slice.PartMut.{putMid}
 use Rattle.rules.specs.declared.State.{State}
 use Rattle.rules.specs.Calls.{Call}
 use Rattle.rules.specs.Run.{stateFrom}
-use Rattle.board.specs.Wrote.{Wrote}
-use Rattle.board.proofs.Writing.{wrote-none}
+use Rattle.laws.specs.Wrote.{Wrote}
+use Rattle.laws.proofs.Writing.{wrote-none}
 use Rattle.scheduler.specs.Layout.{word, headOf, sizeOf, listPlaces, textPlaces, callOf, rowLength, endBefore, reading}
 use Rattle.scheduler.specs.Runs.{gathered, rowOf, listOf, textOf, Ran, callsRead, ranFrom}
 use Rattle.scheduler.specs.Making.{Lent, Answered}

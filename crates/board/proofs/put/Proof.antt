@@ -2,7 +2,7 @@
 use Prim.Native.Nat.{_-_}
 use native.Mathlib.Omega.{arith}
 use lib.ListN.{length}
-use Rattle.board.proofs.Writing.{Copied, copy-none, copy-length, copy-one, copy-all}
+use Rattle.laws.proofs.Writing.{Copied, copy-none, copy-length, copy-one, copy-all}
 use Rattle.board.proofs.put.Statement.{statement}
 use Rattle.board.proofs.put.Tie as tie
 

@@ -1,6 +1,6 @@
 -- By the two cases of the health. Assumes nothing.
 use mathlib.Core.Path.{sym}
-use Rattle.board.proofs.Writing.{fits-as, wrote-as}
+use Rattle.laws.proofs.Writing.{fits-as, wrote-as}
 use Rattle.board.proofs.TextLaws.{live-text, dead-text}
 use borrow.Author.Needs.{needs}
 use Rattle.board.proofs.put_health.Statement.{statement}

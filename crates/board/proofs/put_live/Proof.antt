@@ -5,8 +5,8 @@ use mathlib.Core.Path.{sym}
 use Prim.Native.Nat.{_≤_}
 use native.Mathlib.Omega.{arith}
 use lib.ListN.{length}
+use Rattle.laws.proofs.Writing.{behind, start-fits, rest-fits, end-fits, front-fits, fits-as, wrote-as}
 use Rattle.rules.specs.Board.{decimal, liveWord, blank}
-use Rattle.board.proofs.Writing.{behind, start-fits, rest-fits, end-fits, front-fits, fits-as, wrote-as}
 use Rattle.board.proofs.put_live.Statement.{statement}
 use Rattle.board.proofs.put_live.Tie as tie
 

@@ -3,8 +3,8 @@ use borrow.Author.Needs.{needs}
 use Prim.Native.Nat.{_≤_}
 use native.Mathlib.Omega.{arith}
 use lib.ListN.{length}
+use Rattle.laws.proofs.Writing.{behind, start-fits, rest-fits, end-fits, front-fits}
 use Rattle.rules.specs.Board.{decimal}
-use Rattle.board.proofs.Writing.{behind, start-fits, rest-fits, end-fits, front-fits}
 use Rattle.board.proofs.put_number.Statement.{statement}
 use Rattle.board.proofs.put_number.Tie as tie
 

@@ -3,7 +3,7 @@ use borrow.Author.Needs.{needs}
 use Prim.Native.Nat.{_-_}
 use mathlib.Core.Path.{_∙_}
 use native.Mathlib.Omega.{arith}
-use Rattle.board.proofs.Writing.{wrote-length}
+use Rattle.laws.proofs.Writing.{wrote-length}
 use Rattle.board.proofs.TextLaws.{Going, first-fits, first-done, going-length, going-start, going-asks, going-on, going-high, going-done}
 use Rattle.board.proofs.write.Statement.{statement}
 use Rattle.board.proofs.write.Tie as tie

@@ -1,17 +1,18 @@
--- Laws of writers: one after another, each lent the rest of the buffer. General: for `laws`.
-use Prim.Native.Nat.{ℕ, suc, _+_, _-_, _≤_, _<_}
+-- Laws of writers: one after another, each lent the rest of the buffer.
+use Prim.Native.Nat.{ℕ, _+_, _-_, _≤_, _<_}
 use mathlib.Core.Path.{_≡_, refl, sym, ap, subst, _∙_}
 use mathlib.Core.List.{List, [], _∷_, _++_, append-assoc, append-nil}
 use native.Mathlib.Nat.{le-refl}
 use native.Mathlib.Numerals.{add-one}
 use native.Mathlib.Omega.{arith}
 use lib.ListN.{length, getD, take, drop, set, length-append, length-drop, drop-of-length-le}
-use lib.Seq.{take-suc, drop-cons, set-at, take-at, drop-at, drop-drop, drop-append-add, take-all, length-take-le}
+use lib.Seq.{take-suc, take-at, drop-at, drop-drop, drop-append-add, take-all, length-take-le}
 use borrow.Rule.Slice.PartMut.{putMid, midOf}
-use Rattle.board.specs.Wrote.{Wrote}
+use Rattle.laws.specs.Wrote.{Wrote}
+use Rattle.laws.proofs.Front.{length-front, front-more}
 
 pub wrote-length : {a e x : List ℕ} {r : ℕ} → Wrote a e x r → length a ≤ length e → length x ≡ length e
-wrote-length {a} {e} w l = ap length (w .bytes) ∙ simp (length-append, length-drop) (omega arith)
+wrote-length {a} {e} w l = ap length (w .bytes) ∙ length-front a e l
 
 module _ {a e x : List ℕ} {r : ℕ} (w : Wrote a e x r) where
   front-is : take r x ≡ a
@@ -87,7 +88,7 @@ pub wrote-one : {a e x : List ℕ} {r : ℕ} (v : ℕ) → Wrote a e x r → len
 wrote-one {a} {e} v w l =
     record {
       count = simp length-append (omega (arith, w .count));
-      bytes = rw (w .bytes, w .count, drop-cons e (length a) 0 l, append-assoc, length-append, add-one) (set-at a (getD e (length a) 0) (drop (suc (length a)) e) v (length a) refl);
+      bytes = rw (w .bytes, w .count) (front-more a e v l);
     }
 
 -- the first i bytes of a text are copied into a buffer that has room for it

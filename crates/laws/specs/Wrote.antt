@@ -1,4 +1,4 @@
--- What a writer that was lent a buffer promises. General: for `laws`.
+-- What a writer that was lent a buffer promises.
 use Prim.Native.Nat.{ℕ}
 use mathlib.Core.Path.{_≡_}
 use mathlib.Core.List.{List, _++_}
