@@ -9,8 +9,9 @@ use lib.ListN.{set}
 use lib.Dec.{ltb}
 use borrow.Author.Tests.{ltb-true, lt-ltb}
 use Rattle.laws.specs.Chain.{alongChain}
-use Rattle.laws.proofs.Chain.{along-zero, along-suc}
+use Rattle.laws.proofs.Chain.{along-zero}
 use Rattle.laws.proofs.Choice.{and-left, and-right, and-both}
+use Rattle.laws.proofs.Walk.{along-step}
 use Rattle.rules.specs.declared.State.{State}
 use Rattle.rules.specs.Sizes.{sumLimit, maxJobs}
 use Rattle.rules.specs.State.{at, isPresent, parentOf}
@@ -37,16 +38,6 @@ leads-next next (suc n) (suc x) a b h =
     let e : suc n - 1 ≡ n = omega arith in
     let f : suc x - 1 ≡ x = omega arith in
     rw (e, f) (and-right (ltb x maxJobs) (leadsInside next n (next x)) h)
-
--- one step of the walk
-pub along-step {ℓ} : {A : Type ℓ} (next : ℕ → ℕ) (step : ℕ → A → A) (n link : ℕ) (a : A) → 1 ≤ n → 1 ≤ link
-    → alongChain next step n link a ≡ alongChain next step (n - 1) (next (link - 1)) (step (link - 1) a)
-along-step next step zero link a p q = absurd (omega arith)
-along-step next step (suc n) zero a p q = absurd (omega arith)
-along-step next step (suc n) (suc x) a p q =
-    let e : suc n - 1 ≡ n = omega arith in
-    let f : suc x - 1 ≡ x = omega arith in
-    rw (e, f) (along-suc next step n x a)
 
 -- no depth is left; the chain has ended; one more job is charged
 pub walk-none : (next : ℕ → ℕ) (m depth link : ℕ) (sums : List ℕ) → depth ≡ 0 → sums ≡ alongChain next (addedTo m) depth link sums

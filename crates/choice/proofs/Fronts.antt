@@ -1,33 +1,22 @@
 -- The front of a list, found place by place; turns that go round.
-use Prim.Native.Nat.{ℕ, zero, suc, _+_, _%_, _≤_, _<_}
+use Prim.Native.Nat.{ℕ, _+_, _%_, _≤_, _<_}
 use mathlib.Core.Bool.{Bool, true, false}
-use mathlib.Core.Path.{_≡_, refl, sym, _∙_, ap}
-use mathlib.Core.Logic.{_≢_}
-use mathlib.Core.List.{List, [], _∷_}
-use native.Mathlib.Nat.{not-suc-le-zero}
+use mathlib.Core.Path.{_≡_, sym, _∙_, ap}
+use mathlib.Core.List.{List, []}
 use native.Mathlib.Omega.{arith}
 use lib.Dec.{ltb}
 use lib.ListN.{length, getD, take}
 use lib.Seq.{getD-take, length-take-le}
-use borrow.Author.Tests.{eq-eqb, ne-eqb}
 use Rattle.laws.specs.Range.{countTo}
 use Rattle.laws.specs.Sequence.{upTo, countIn}
-use Rattle.laws.proofs.Choice.{true-not-false, if-true, if-false}
+use Rattle.laws.proofs.Choice.{true-not-false}
 use Rattle.laws.proofs.Count.{count-same}
 use Rattle.laws.proofs.First.{first-unique, first-none}
 use Rattle.laws.proofs.Index.{first-of-at, first-of-none-at, count-in-take}
+use Rattle.laws.proofs.Found.{up-to-at}
 use Rattle.rules.specs.State.{at}
 use Rattle.rules.specs.Picking.{stepsTo}
 use Rattle.choice.specs.Facts.{frontOf, aheadOf}
-
--- what stands before the first y, where y first stands at i
-pub up-to-at : (l : List ℕ) (i d : ℕ) → i < length l → ((k : ℕ) → k < i → getD l k d ≢ getD l i d) → upTo (getD l i d) l ≡ take i l
-unfolding upTo
-up-to-at [] i d h ne = absurd (not-suc-le-zero h)
-up-to-at (x ∷ l) zero d h ne = if-true [] (x ∷ upTo x l) (eq-eqb x x refl)
-up-to-at (x ∷ l) (suc i) d h ne =
-    if-false [] (x ∷ upTo (getD l i d) l) (ne-eqb x (getD l i d) (ne 0 (omega arith)))
-    ∙ ap (λ m. x ∷ m) (up-to-at l i d (omega arith) (λ k b. ne (suc k) (omega arith)))
 
 module _ (ready : List Bool) (waits jobs : List ℕ) (n : ℕ) (len : length jobs ≡ 32) (fits : n ≤ 32) where
   long : length (take n jobs) ≡ n
@@ -71,9 +60,3 @@ steps-at p n start i l hit miss = first-unique (λ k. p ((start + k) % n)) n i l
 pub steps-none : (p : ℕ → Bool) (n start : ℕ) → ((k : ℕ) → k < n → p ((start + k) % n) ≡ false) → stepsTo p n start ≡ n
 unfolding stepsTo
 steps-none p n start miss = first-none (λ k. p ((start + k) % n)) n miss
-
--- inside a list, the default does not matter
-pub getD-default {ℓ} : {A : Type ℓ} (l : List A) (i : ℕ) (d e : A) → i < length l → getD l i d ≡ getD l i e
-getD-default [] i d e h = absurd (not-suc-le-zero h)
-getD-default (x ∷ l) zero d e h = refl
-getD-default (x ∷ l) (suc i) d e h = getD-default l i d e (omega arith)

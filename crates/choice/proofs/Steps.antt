@@ -1,4 +1,4 @@
--- One step of a loop that fills a table.
+-- A loop that fills a table of jobs.
 use Prim.Native.Nat.{ℕ, _+_, _≤_, _<_}
 use mathlib.Core.Path.{_≡_, refl, _∙_}
 use mathlib.Core.List.{List}
@@ -6,12 +6,7 @@ use native.Mathlib.Nat.{not-suc-le-zero}
 use native.Mathlib.Omega.{arith}
 use lib.ListN.{length, getD, set, replicate, length-set, getD-replicate}
 use lib.Seq.{getD-set-other}
-use Rattle.laws.proofs.Columns.{set-all}
-
--- a table filled up to i, one place further
-pub table-more {ℓ} : {A : Type ℓ} (f : ℕ → A) (l : List A) (i : ℕ) (v d : A) → i < length l → ((k : ℕ) → k < i → getD l k d ≡ f k) → v ≡ f i → (k : ℕ) → k < i + 1 → getD (set l i v) k d ≡ f k
-table-more f l i v d h old new =
-    set-all (λ k x. k < i + 1 → x ≡ f k) l i v d h (λ m. new) (λ k ne m. old k (omega arith))
+use Rattle.laws.proofs.Columns.{set-more}
 
 -- a table of 256 places, filled for the first j of 32 jobs, and d from there on
 pub record Filled {A : Type 0} (f : ℕ → A) (d : A) (l : List A) (j : ℕ) : Type 0 where
@@ -28,6 +23,6 @@ filled-more {f = f} {d = d} {l = l} {j = j} {v = v} h b e =
     record {
       size = length-set l j v ∙ h .size;
       bound = omega arith;
-      below = table-more f l j v d (omega (arith, h .size)) (h .below) e;
+      below = set-more f l j v d (omega (arith, h .size)) (h .below) e;
       above = λ k m n. getD-set-other l j k v d (omega arith) ∙ h .above k (omega arith) n;
     }

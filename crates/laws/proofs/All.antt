@@ -71,6 +71,26 @@ module _ (p : ℕ → Bool) where
   not-all zero = refl
   not-all (suc n) = not-and (allTo p n) (p n) ∙ ap (λ b. b || not (p n)) (not-all n)
 
+-- A loop that joins the test over the numbers passed: its start, and one turn.
+module _ (p : ℕ → Bool) where
+  pub all-none : true ≡ allTo p 0
+  unfolding allTo
+  all-none = refl
+
+  pub all-turn : (i : ℕ) (good b : Bool) → good ≡ allTo p i → b ≡ p i → good && b ≡ allTo p (i + 1)
+  all-turn i good b e k = rw (e, k, all-step)
+
+  pub any-nothing : false ≡ anyTo p 0
+  unfolding anyTo
+  any-nothing = refl
+
+  pub any-turn : (i : ℕ) (some b : Bool) → some ≡ anyTo p i → b ≡ p i → some || b ≡ anyTo p (i + 1)
+  any-turn i some b e k = rw (e, k, any-step)
+
+  -- one that goes on while the test holds
+  pub all-more : (i : ℕ) → allTo p i ≡ true → p i ≡ true → allTo p (i + 1) ≡ true
+  all-more i h k = all-step p i ∙ and-both h k
+
 -- where the test does not hold everywhere, there is a place where it fails
 pub all-false-witness : (p : ℕ → Bool) (n : ℕ) → allTo p n ≡ false → (i : ℕ) × (i < n) × (p i ≡ false)
 all-false-witness p n h =

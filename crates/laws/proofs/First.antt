@@ -3,20 +3,21 @@ use Prim.Native.Nat.{ℕ, zero, suc, _+_, _≤_, _<_}
 use mathlib.Core.Bool.{Bool, true, false}
 use mathlib.Core.Path.{_≡_, refl, sym, _∙_}
 use mathlib.Core.Logic.{⊎-elim}
-use mathlib.Core.List.{[], _∷_, _++_}
+use mathlib.Core.List.{List, [], _∷_, _++_}
 use native.Mathlib.Nat.{le-step, lt-suc-self, not-suc-le-zero, le-refl, lt-of-le-of-lt, eq-or-lt-of-le, add-zero}
 use native.Mathlib.Numerals.{add-one}
 use native.Mathlib.Decide.{decLt}
 use native.Mathlib.Omega.{arith}
 use lib.Dec.{ltb}
-use lib.ListN.{length, getD, length-append, List·getD-append}
+use lib.ListN.{length, getD, set, drop, length-append, List·getD-append}
 use lib.Seq.{getD-at}
 use borrow.Author.Tests.{ltb-true, ltb-false, lt-ltb}
 use Rattle.laws.specs.Choice.{if_then_else_, one}
 use Rattle.laws.specs.Range.{anyTo, countTo, firstTo, chosenTo}
 use Rattle.laws.proofs.Choice.{true-not-false, case-bool, bool-same, if-cases, one-true}
 use Rattle.laws.proofs.All.{below-suc, any-of, any-witness}
-use Rattle.laws.proofs.Count.{count-suc, count-more, count-injective}
+use Rattle.laws.proofs.Count.{count-suc, count-more, count-miss, count-le-bound, count-injective}
+use Rattle.laws.proofs.Front.{front-more}
 
 -- x is the least number below n that passes, or n
 record IsFirst (p : ℕ → Bool) (n x : ℕ) : Type 0 where
@@ -104,9 +105,33 @@ module _ (p : ℕ → Bool) where
   unfolding chosenTo if_then_else_
   chosen-false n f = rw f
 
+  pub length-chosen-le : (n : ℕ) → length (chosenTo p n) ≤ n
+  length-chosen-le n = omega (arith, length-chosen n, count-le-bound p n)
+
   pub chosen-step : (i : ℕ) → chosenTo p (i + 1) ≡ (if p i then chosenTo p i ++ (i ∷ []) else chosenTo p i)
   unfolding chosenTo
   chosen-step i = rw add-one
+
+  pub chosen-hit : (i : ℕ) → p i ≡ true → chosenTo p (i + 1) ≡ chosenTo p i ++ (i ∷ [])
+  chosen-hit i t = rw add-one (chosen-true i t)
+
+  pub chosen-miss : (i : ℕ) → p i ≡ false → chosenTo p (i + 1) ≡ chosenTo p i
+  chosen-miss i f = rw add-one (chosen-false i f)
+
+pub chosen-none : (n : ℕ) → chosenTo (λ i. false) n ≡ []
+unfolding chosenTo if_then_else_
+chosen-none zero = refl
+chosen-none (suc n) = chosen-none n
+
+-- the chosen ones, written over the front of a list: one more, and none
+module _ (p : ℕ → Bool) (l : List ℕ) (i : ℕ) where
+  pub chosen-write : p i ≡ true → countTo p i < length l
+      → set (chosenTo p i ++ drop (countTo p i) l) (countTo p i) i ≡ chosenTo p (i + 1) ++ drop (countTo p (i + 1)) l
+  chosen-write t h =
+      rw (← length-chosen p i, ← length-chosen p (i + 1), chosen-hit p i t) (front-more (chosenTo p i) l i (rw length-chosen h))
+
+  pub chosen-skip : p i ≡ false → chosenTo p i ++ drop (countTo p i) l ≡ chosenTo p (i + 1) ++ drop (countTo p (i + 1)) l
+  chosen-skip f = rw (count-miss p i f, chosen-miss p i f)
 
 -- x passes, is below n, and k that pass are below it
 record IsChosen (p : ℕ → Bool) (n k x : ℕ) : Type 0 where
@@ -148,6 +173,12 @@ module _ (p : ℕ → Bool) (d : ℕ) where
   chosen-at n i l t =
       let r = chosen-is p d n (countTo p i) (omega (arith, count-suc p i, count-more p l, one-true t)) in
       count-injective p (r .passes) t (r .place)
+
+  -- the first of them are the same, however far the choice goes
+  pub chosen-prefix : (m n k : ℕ) → m ≤ n → k < countTo p m → getD (chosenTo p m) k d ≡ getD (chosenTo p n) k d
+  chosen-prefix m n k h l =
+      let e = chosen-at n (getD (chosenTo p m) k d) (omega (arith, chosen-below m k l)) (chosen-passes m k l) in
+      sym (rw (chosen-place m k l) at e)
 
   pub chosen-rises : (n i j : ℕ) → i < j → j < countTo p n → getD (chosenTo p n) i d < getD (chosenTo p n) j d
   chosen-rises n i j l h =

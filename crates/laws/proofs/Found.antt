@@ -1,12 +1,13 @@
 -- Laws of firstOf and upTo.
-use Prim.Native.Nat.{ℕ, suc, _<_}
+use Prim.Native.Nat.{ℕ, zero, suc, _<_}
 use mathlib.Core.Bool.{Bool, true, false, not}
 use mathlib.Core.Path.{_≡_, refl, sym, _∙_, ap, subst}
-use mathlib.Core.Logic.{_⊎_, inl, inr, ⊎-elim}
+use mathlib.Core.Logic.{_⊎_, inl, inr, ⊎-elim, _≢_}
 use mathlib.Core.List.{List, [], _∷_, _++_}
+use native.Mathlib.Nat.{not-suc-le-zero}
 use native.Mathlib.Omega.{arith}
 use lib.Dec.{eqb}
-use lib.ListN.{length, drop, length-drop}
+use lib.ListN.{length, getD, take, drop, length-drop}
 use borrow.Author.Tests.{eqb-true, eqb-false, ne-eqb, not-true}
 use Rattle.laws.specs.Choice.{if_then_else_}
 use Rattle.laws.specs.Sequence.{holds, firstOf, upTo, everyIn}
@@ -95,3 +96,12 @@ module _ (y : ℕ) where
 
   pub up-to-length : (l : List ℕ) → holds y l ≡ true → length (upTo y l) < length l
   up-to-length l h = omega (arith, ap length (up-to-next l h), length-drop (length (upTo y l)) l, length-drop (suc (length (upTo y l))) l)
+
+-- what stands before the first y, where y first stands at i
+pub up-to-at : (l : List ℕ) (i d : ℕ) → i < length l → ((k : ℕ) → k < i → getD l k d ≢ getD l i d) → upTo (getD l i d) l ≡ take i l
+unfolding upTo
+up-to-at [] i d h ne = absurd (not-suc-le-zero h)
+up-to-at (x ∷ l) zero d h ne = if-true [] (x ∷ upTo x l) (eqb-self x)
+up-to-at (x ∷ l) (suc i) d h ne =
+    if-false [] (x ∷ upTo (getD l i d) l) (ne-eqb x (getD l i d) (ne 0 (omega arith)))
+    ∙ ap (λ m. x ∷ m) (up-to-at l i d (omega arith) (λ k b. ne (suc k) (omega arith)))

@@ -9,12 +9,12 @@ use lib.Dec.{eqb}
 use lib.ListN.{length, getD, take, drop, set}
 use lib.Seq.{take-suc, take-length, split-at, getD-take, length-take-le, getD-set-same, getD-set-other}
 use Rattle.laws.specs.Choice.{if_then_else_, one}
-use Rattle.laws.specs.Range.{allTo, anyTo, countTo}
+use Rattle.laws.specs.Range.{allTo, anyTo, countTo, tableTo}
 use Rattle.laws.specs.Sequence.{keep, holds, timesIn, everyIn, countIn, firstOf}
 use Rattle.laws.proofs.Choice.{case-bool, not-is-true, if-true}
 use Rattle.laws.proofs.All.{all-change}
 use Rattle.laws.proofs.Count.{count-change}
-use Rattle.laws.proofs.Sequence.{holds-append, times-count, every-append, every-from-getD, count-in-append}
+use Rattle.laws.proofs.Sequence.{holds-append, times-append, times-single, times-count, every-append, every-from-getD, count-in-append}
 use Rattle.laws.proofs.Keep.{keep-append}
 use Rattle.laws.proofs.Found.{first-of-append, first-of-none}
 
@@ -80,6 +80,19 @@ module _ (x : ℕ) (l : List ℕ) (d : ℕ) where
 
   pub times-count-to : timesIn x l ≡ countTo (λ i. eqb x (getD l i d)) (length l)
   times-count-to = times-count x l ∙ count-in-count (eqb x) l d
+
+-- a table as a list
+
+module _ (f : ℕ → ℕ) (x : ℕ) where
+  pub holds-table : (n : ℕ) → holds x (tableTo f n) ≡ anyTo (λ i. eqb x (f i)) n
+  unfolding tableTo anyTo holds
+  holds-table zero = refl
+  holds-table (suc n) = holds-append x (tableTo f n) (f n ∷ []) ∙ ap₂ _||_ (holds-table n) (or-false (eqb x (f n)))
+
+  pub times-table : (n : ℕ) → timesIn x (tableTo f n) ≡ countTo (λ i. eqb x (f i)) n
+  unfolding tableTo countTo timesIn
+  times-table zero = refl
+  times-table (suc n) = times-append x (tableTo f n) (f n ∷ []) ∙ ap₂ _+_ (times-table n) (times-single x (f n))
 
 -- an array with one element changed
 

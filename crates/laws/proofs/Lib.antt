@@ -4,6 +4,7 @@ pub mod ChainChange
 pub mod Choice
 pub mod Count
 pub mod Falling
+pub mod Fill
 pub mod First
 pub mod Firsts
 pub mod Found
@@ -17,8 +18,10 @@ pub mod Order
 pub mod Sequence
 pub mod Table
 pub mod Both
+pub mod Building
 pub mod Sum
 pub mod Update
+pub mod Walk
 pub mod Writing
 pub mod Onto
 pub mod Tests

@@ -13,7 +13,7 @@ use borrow.Author.Tests.{eqb-true, eq-eqb, ne-eqb, ltb-true, lt-ltb}
 use Rattle.laws.specs.Choice.{one}
 use Rattle.laws.specs.Range.{allTo, countTo, chosenTo}
 use Rattle.laws.specs.Sequence.{keep, holds, timesIn, everyIn, countIn, insertBefore, moveBefore, holdsEachOnce}
-use Rattle.laws.proofs.Choice.{true-not-false, false-of, case-bool, not-is-true, not-is-false, and-both, and-left, and-right, and-right-false, one-true, one-false, one-le, one-positive, eqb-self}
+use Rattle.laws.proofs.Choice.{true-not-false, false-of, case-bool, bool-same, not-is-true, not-is-false, and-both, and-left, and-right, and-right-false, one-true, one-false, one-le, one-positive, eqb-self}
 use Rattle.laws.proofs.All.{below-suc, all-at, all-from}
 use Rattle.laws.proofs.First.{length-chosen, chosen-true, chosen-false, chosen-below, chosen-passes}
 use Rattle.laws.proofs.Sequence.{holds-of-times, holds-place, times-append, times-single, times-positive, times-zero, times-none, every-at, every-from}
@@ -223,3 +223,8 @@ chosen-once p (suc n) x k t =
 
 pub once-chosen : (p : ℕ → Bool) (n : ℕ) → EachOnce p n (chosenTo p n)
 once-chosen p n = record { below = chosen-in-below p n; passes = chosen-in-passes p n; once = chosen-once p n }
+
+-- of two tests that agree
+pub each-once-same : (p q : ℕ → Bool) (n : ℕ) (l : List ℕ) → ((x : ℕ) → x < n → p x ≡ q x) → holdsEachOnce p n l ≡ holdsEachOnce q n l
+each-once-same p q n l h =
+    bool-same (λ t. once-of q n l (once-same q (once-facts p n l t) h)) (λ t. once-of p n l (once-same p (once-facts q n l t) (λ x b. sym (h x b))))

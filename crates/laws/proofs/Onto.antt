@@ -136,3 +136,13 @@ module _ (p : ℕ → Bool) (next : ℕ → ℕ) (N : ℕ) where
   first-near q (suc n) (suc x) h e =
       let low : n ≤ N = le-trans (le-step (le-refl n)) h in
       near-step q n x low e (first-near q n (next x) low e)
+
+-- of two tests that agree
+pub near-same : (p q : ℕ → Bool) (next : ℕ → ℕ) (n x : ℕ) → ((k : ℕ) → p k ≡ q k) → near p next n x ≡ near q next n x
+unfolding near firstAlong
+near-same p q next n x h = first-agrees n (next x)
+  where
+    first-agrees : (n k : ℕ) → firstAlong p next n k ≡ firstAlong q next n k
+    first-agrees zero k = refl
+    first-agrees (suc n) zero = refl
+    first-agrees (suc n) (suc y) = rw (h y, first-agrees n (next y))

@@ -1,6 +1,6 @@
 -- Laws of holds, timesIn, everyIn, countIn and padded.
 use Prim.Native.Nat.{ℕ, zero, suc, _+_, _-_, _≤_, _<_}
-use mathlib.Core.Bool.{Bool, true, false, _&&_, _||_, and-assoc, or-assoc}
+use mathlib.Core.Bool.{Bool, true, false, _&&_, _||_, or-false, and-assoc, or-assoc}
 use mathlib.Core.Path.{_≡_, refl, sym, _∙_, ap, ap₂}
 use mathlib.Core.Logic.{_⊎_, inl, inr, _≢_, ⊎-elim}
 use mathlib.Core.List.{List, [], _∷_, _++_, append-assoc, append-nil}
@@ -9,10 +9,11 @@ use native.Mathlib.Omega.{arith}
 use lib.Dec.{eqb, ltb}
 use lib.ListN.{length, getD, take, set, replicate, length-append, length-replicate, length-set}
 use lib.Seq.{take-append-seam, set-append-seam, set-append-left}
-use borrow.Author.Tests.{eqb-true, eqb-false, ltb-true, lt-ltb}
+use borrow.Author.Tests.{eqb-true, eqb-false, ne-eqb, ltb-true, lt-ltb}
 use Rattle.laws.specs.Choice.{one}
 use Rattle.laws.specs.Sequence.{holds, timesIn, everyIn, countIn, padded}
 use Rattle.laws.proofs.Choice.{true-not-false, case-bool, bool-same, false-of, and-both, and-left, and-right, or-left, or-right, or-cases, or-left-false, or-right-false, one-true, one-false, one-le, one-le-one, eqb-self}
+use Rattle.laws.proofs.Columns.{getD-repeated}
 
 -- x occurs
 
@@ -53,6 +54,10 @@ module _ (x : ℕ) where
 
   pub holds-append-cases : (l m : List ℕ) → holds x (l ++ m) ≡ true → (holds x l ≡ true) ⊎ (holds x m ≡ true)
   holds-append-cases l m h = or-cases (holds x l) (holds x m) (sym (holds-append l m) ∙ h)
+
+  pub holds-append-other : (y : ℕ) (l : List ℕ) → x ≢ y → holds x (l ++ (y ∷ [])) ≡ holds x l
+  unfolding holds
+  holds-append-other y l ne = holds-append l (y ∷ []) ∙ rw (ne-eqb x y ne, or-false)
 
   -- how often x occurs
 
@@ -149,6 +154,9 @@ module _ (p : ℕ → Bool) where
   pub every-getD : (l : List ℕ) → everyIn p l ≡ true → (i d : ℕ) → i < length l → p (getD l i d) ≡ true
   every-getD l h i d k = every-at l h (getD l i d) (holds-getD l i d k)
 
+  pub every-false-of : (l : List ℕ) (i d : ℕ) → i < length l → p (getD l i d) ≡ false → everyIn p l ≡ false
+  every-false-of l i d h f = false-of λ t. true-not-false (every-getD l t i d h) f
+
   pub every-from-getD : (l : List ℕ) (d : ℕ) → ((i : ℕ) → i < length l → p (getD l i d) ≡ true) → everyIn p l ≡ true
   every-from-getD l d h = every-from l λ x k. let w = holds-place x l d k in rw (← w .2) (h (w .0) (w .1))
 
@@ -182,6 +190,11 @@ module _ (p : ℕ → Bool) where
   count-in-all [] h = refl
   count-in-all (y ∷ l) h = omega (arith, one-true (and-left (p y) (everyIn p l) h), count-in-all l (and-right (p y) (everyIn p l) h))
 
+  pub count-in-pos-of : (l : List ℕ) (x : ℕ) → holds x l ≡ true → p x ≡ true → 1 ≤ countIn p l
+  unfolding countIn holds
+  count-in-pos-of [] x h t = true-not-false h refl
+  count-in-pos-of (y ∷ l) x h t = ⊎-elim (λ e. omega (arith, one-true (rw e at t))) (λ k. omega (arith, count-in-pos-of l x k t)) (holds-cases x y l h)
+
 module _ (p q : ℕ → Bool) where
   pub every-imp : (l : List ℕ) → ((x : ℕ) → holds x l ≡ true → p x ≡ true → q x ≡ true) → everyIn p l ≡ true → everyIn q l ≡ true
   every-imp l h t = every-from q l λ x k. h x k (every-at p l t x k)
@@ -212,9 +225,7 @@ unfolding padded
 take-padded n l = take-append-seam l (replicate (n - length l) 0)
 
 getD-zeros : (l : List ℕ) (k i : ℕ) → getD (l ++ replicate k 0) i 0 ≡ getD l i 0
-getD-zeros [] zero i = refl
-getD-zeros [] (suc k) zero = refl
-getD-zeros [] (suc k) (suc i) = getD-zeros [] k i
+getD-zeros [] k i = getD-repeated 0 k i
 getD-zeros (x ∷ l) k zero = refl
 getD-zeros (x ∷ l) k (suc i) = getD-zeros l k i
 

@@ -5,6 +5,7 @@ use mathlib.Core.Logic.{_≢_}
 use mathlib.Core.Bool.{Bool, true, false}
 use native.Mathlib.Decide.{ℕ-discrete, decLt}
 use native.Mathlib.Nat.{le-refl, le-trans}
+use native.Mathlib.Numerals.{add-one}
 use native.Mathlib.Omega.{arith}
 use lib.Dec.{ltb}
 use borrow.Author.Tests.{le-ltb}
@@ -57,6 +58,15 @@ pub sum-suc : (f : ℕ → ℕ) (n : ℕ) → sumTo f (suc n) ≡ sumTo f n + f 
 unfolding sumTo
 sum-suc f n = refl
 
+-- A loop that sums: its start, and one turn.
+
+pub sum-nothing : (f : ℕ → ℕ) → 0 ≡ sumTo f 0
+unfolding sumTo
+sum-nothing f = refl
+
+pub sum-turn : (f : ℕ → ℕ) (i sum : ℕ) → sum ≡ sumTo f i → sum + f i ≡ sumTo f (i + 1)
+sum-turn f i sum e = rw add-one (omega (arith, e, sum-suc f i))
+
 -- the bound grows by one, below it nothing changes, and the new part is nothing
 pub sum-grow : (f g : ℕ → ℕ) (n : ℕ) → ((i : ℕ) → i < n → g i ≡ f i) → g n ≡ 0 → sumTo g (suc n) ≡ sumTo f n
 unfolding sumTo
@@ -67,6 +77,10 @@ unfolding sumTo
 sum-more f zero zero l = omega arith
 sum-more f (suc m) zero l = omega arith
 sum-more f m (suc n) l = elim (decLt n m) [ yes p ↦ (let e : m ≡ suc n = omega arith in rw e (omega arith)) | no p ↦ omega (arith, sum-more f m n (omega arith)) ]
+
+-- what a turn of it leaves is within a bound of the whole
+pub sum-fits : (f : ℕ → ℕ) (i n sum most : ℕ) → i < n → sum ≡ sumTo f i → sumTo f n ≤ most → sum + f i ≤ most
+sum-fits f i n sum most l e h = omega (arith, e, sum-suc f i, sum-more f (suc i) n (omega arith))
 
 -- one number's part changes
 pub sum-change : (f g : ℕ → ℕ) (j n : ℕ) → j < n → ((i : ℕ) → i < n → i ≢ j → g i ≡ f i) → sumTo g n + f j ≡ sumTo f n + g j

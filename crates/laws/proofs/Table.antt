@@ -1,14 +1,14 @@
 -- Laws of tableTo and foldTo.
-use Prim.Native.Nat.{ℕ, zero, suc, _+_, _≤_, _<_}
-use mathlib.Core.Path.{_≡_, refl, sym, _∙_}
-use mathlib.Core.List.{List, [], _∷_, _++_, append-assoc, append-nil, map, map-append}
-use native.Mathlib.Nat.{le-step, lt-suc-self, not-suc-le-zero, le-dest}
+use Prim.Native.Nat.{ℕ, zero, suc, _+_, _<_}
+use mathlib.Core.Path.{_≡_, refl, sym, _∙_, ap}
+use mathlib.Core.Logic.{_≢_}
+use mathlib.Core.List.{List, [], _∷_, _++_, map, map-append}
+use native.Mathlib.Nat.{le-step, lt-suc-self, not-suc-le-zero}
 use native.Mathlib.Numerals.{add-one}
 use native.Mathlib.Decide.{ℕ-discrete}
-use native.Mathlib.Omega.{arith}
 use lib.Dec.{eqb}
-use lib.ListN.{length, getD, set, drop, length-append, length-drop, length-set, drop-of-length-le, List·getD-append}
-use lib.Seq.{getD-at, set-at, drop-cons, getD-drop, getD-append-add, getD-set-same, getD-set-other, ext-getD}
+use lib.ListN.{length, getD, set, length-append, length-set, List·getD-append}
+use lib.Seq.{getD-at, getD-set-same, getD-set-other, ext-getD}
 use borrow.Author.Tests.{eq-eqb, ne-eqb}
 use Rattle.laws.specs.Choice.{if_then_else_}
 use Rattle.laws.specs.Range.{tableTo, foldTo}
@@ -33,25 +33,6 @@ module _ {ℓ} {A : Type ℓ} (f : ℕ → A) where
   pub table-step : (i : ℕ) → tableTo f (i + 1) ≡ tableTo f i ++ (f i ∷ [])
   unfolding tableTo
   table-step i = rw add-one
-
-  -- a list filled from its front: its length, what is not yet reached, one more element, the end
-  pub length-fill : (l : List A) (i : ℕ) → i ≤ length l → length (tableTo f i ++ drop i l) ≡ length l
-  length-fill l i h = simp (length-append, length-table, length-drop) (omega arith)
-
-  pub getD-fill : (l : List A) (i j : ℕ) (d : A) → i ≤ j → getD (tableTo f i ++ drop i l) j d ≡ getD l j d
-  getD-fill l i j d h =
-      let w = le-dest h in
-      rw (← w .1) (rw length-table at (getD-append-add (tableTo f i) (drop i l) (w .0) d) ∙ getD-drop i l (w .0) d)
-
-  pub table-drop : (l : List A) (i : ℕ) → i < length l → set (tableTo f i ++ drop i l) i (f i) ≡ tableTo f (suc i) ++ drop (suc i) l
-  unfolding tableTo
-  table-drop l i h = rw (drop-cons l i (f i), append-assoc) (set-at (tableTo f i) (getD l i (f i)) (drop (suc i) l) (f i) i (length-table i))
-
-  pub table-drop-step : (l : List A) (i : ℕ) → i < length l → set (tableTo f i ++ drop i l) i (f i) ≡ tableTo f (i + 1) ++ drop (i + 1) l
-  table-drop-step l i h = rw add-one (table-drop l i h)
-
-  pub table-full : (l : List A) (n : ℕ) → length l ≤ n → tableTo f n ++ drop n l ≡ tableTo f n
-  table-full l n h = rw (drop-of-length-le l {i = n}, append-nil)
 
   pub map-table {κ} : {B : Type κ} (g : A → B) (n : ℕ) → map g (tableTo f n) ≡ tableTo (λ i. g (f i)) n
   unfolding tableTo
@@ -80,6 +61,15 @@ module _ {ℓ} {A : Type ℓ} where
       at-place j l = elim (ℕ-discrete j i) [
         | yes e ↦ rw e (getD-set-same (tableTo f n) i v v (rw (length-table, ← e) l) ∙ sym (if-true v (f i) (eq-eqb i i refl)))
         | no ne ↦ getD-set-other (tableTo f n) i j v v ne ∙ getD-table f n j v l ∙ sym (if-false v (f j) (ne-eqb j i ne))
+      ]
+
+  -- a table with one place written is the table of a function that differs there only
+  pub table-write : (f g : ℕ → A) (n i : ℕ) (v : A) → v ≡ g i → ((j : ℕ) → j < n → j ≢ i → f j ≡ g j) → set (tableTo f n) i v ≡ tableTo g n
+  table-write f g n i v e h =
+      table-set f n i v ∙ table-same (λ j. if eqb j i then v else f j) g n λ j l.
+      elim (ℕ-discrete j i) [
+        | yes p ↦ if-true v (f j) (eq-eqb j i p) ∙ e ∙ ap g (sym p)
+        | no p ↦ if-false v (f j) (ne-eqb j i p) ∙ h j l p
       ]
 
   pub fold-step : (step : ℕ → A → A) (a : A) (i : ℕ) → foldTo step a (i + 1) ≡ step i (foldTo step a i)

@@ -33,6 +33,14 @@ upd-below f j v i l = upd-other f j v i (omega arith)
 pub upd-all : (P : ℕ → ℕ → Type 0) (f : ℕ → ℕ) (j v : ℕ) → P j v → ((i : ℕ) → i ≢ j → P i (f i)) → (i : ℕ) → P i (upd f j v i)
 upd-all P f j v at off = at-or-off (λ i. P i (upd f j v i)) j (rw upd-same at) (λ i h. rw upd-other (off i h))
 
+-- of two columns that agree
+pub upd-agree-at : (f g : ℕ → ℕ) (j v i : ℕ) → f i ≡ g i → upd f j v i ≡ upd g j v i
+unfolding upd
+upd-agree-at f g j v i h = rw h
+
+pub upd-agree : (f g : ℕ → ℕ) {j k v w : ℕ} → j ≡ k → v ≡ w → ((i : ℕ) → f i ≡ g i) → (i : ℕ) → upd f j v i ≡ upd g k w i
+upd-agree f g {k = k} {w = w} p q h i = rw (p, q) (upd-agree-at f g k w i (h i))
+
 -- one more at j
 pub upd-suc : (f : ℕ → ℕ) (j i : ℕ) → upd f j (suc (f j)) i ≡ f i + one (eqb j i)
 unfolding one

@@ -1,5 +1,5 @@
 -- The pass that puts off: what it has done up to an entry, and a step of it.
-use Prim.Native.Nat.{ℕ, zero, suc, _+_, _≤_, _<_}
+use Prim.Native.Nat.{ℕ, _+_, _≤_, _<_}
 use mathlib.Core.Path.{_≡_, refl, sym, _∙_, ap}
 use mathlib.Core.Logic.{_≢_}
 use mathlib.Core.Bool.{Bool, true, false, not, _&&_}
@@ -14,19 +14,13 @@ use Rattle.laws.specs.Choice.{if_then_else_, one}
 use Rattle.laws.specs.Range.{countTo, chosenTo, tableTo}
 use Rattle.laws.proofs.Choice.{and-both, and-left, and-right, and-left-false, and-right-false, if-true, if-false}
 use Rattle.laws.proofs.Count.{count-none, count-hit, count-miss, count-le-bound}
-use Rattle.laws.proofs.First.{length-chosen, chosen-same}
-use Rattle.laws.proofs.Table.{length-table, getD-table, getD-fill, table-drop, table-same, table-self, table-full, length-fill}
-use Rattle.window.proofs.Fill.{table-keep}
+use Rattle.laws.proofs.First.{length-chosen, chosen-same, chosen-write, chosen-skip, chosen-none}
+use Rattle.laws.proofs.Table.{length-table, getD-table, table-same, table-self, table-write}
+use Rattle.laws.proofs.Fill.{getD-fill, table-drop, table-full, table-keep}
 use Rattle.rules.specs.Sizes.{maxJobs, maxEntries, maxLength}
 use Rattle.rules.specs.State.{at}
 use Rattle.rules.specs.Calls.{written}
 use Rattle.leaving.specs.Columns.{putOffAt, keptAt, droppedAt, CanPutOff, PutOff}
-use Rattle.leaving.proofs.Lists.{table-write, chosen-write, chosen-skip}
-
-chosen-none : (n : ℕ) → chosenTo (λ e. false) n ≡ []
-unfolding chosenTo if_then_else_
-chosen-none zero = refl
-chosen-none (suc n) = chosen-none n
 
 -- up to entry i, of a destination that died
 pub record PutTo (d : ℕ) (kind job destination dropped list : List ℕ) (i : ℕ) (kind' dropped' list' : List ℕ) (n : ℕ) : Type 0 where

@@ -15,7 +15,8 @@ use Rattle.laws.specs.Sequence.{keep, holds, timesIn, insertBefore, moveBefore,
 use Rattle.laws.proofs.Choice.{case-bool, if-true, if-false, false-of, eqb-sym}
 use Rattle.laws.proofs.Sequence.{times-cons, times-tail-le, times-head-once, lacks-head, lacks-tail, holds-of-times}
 use Rattle.laws.proofs.Move.{length-move}
-use Rattle.lists.proofs.Building.{put-at, length-snoc}
+use Rattle.laws.proofs.Building.{put-at}
+use Rattle.laws.proofs.Front.{length-snoc}
 
 unfoldable pub moved : ℕ → ℕ → List ℕ → List ℕ
 moved x y [] = []

@@ -14,7 +14,7 @@ use Rattle.laws.specs.Choice.{if_then_else_, one}
 use Rattle.laws.specs.Sequence.{timesIn}
 use Rattle.laws.proofs.Choice.{true-not-false, case-bool, false-of, and-both, one-true, one-false, if-true, if-false}
 use Rattle.laws.proofs.Newest.{newest-is, set-field}
-use Rattle.laws.proofs.Sequence.{times-cons}
+use Rattle.laws.proofs.Sequence.{times-cons, times-single}
 use Rattle.rules.specs.declared.Setup.{Setup}
 use Rattle.rules.specs.declared.State.{State}
 use Rattle.rules.specs.declared.Outcome.{Outcome}
@@ -63,17 +63,13 @@ pub record PutOffFrom (l m : List Account) (jobs : List ℕ) : Type 0 where
   pub putoff : (i : ℕ) → i < length l
       → accountAt m i .putoff ≡ accountAt l i .putoff + (if isNewest l i then timesIn (accountAt l i .job) jobs else 0)
 
-times-one : (x j : ℕ) → timesIn x (j ∷ []) ≡ one (eqb x j)
-unfolding timesIn
-times-one x j = omega arith
-
 -- an account that is not j's gets nothing
 not-its : (l : List Account) (j i : ℕ) → accountOf l j ≢ suc i → (if isNewest l i then timesIn (accountAt l i .job) (j ∷ []) else 0) ≡ 0
 unfolding isNewest
 not-its l j i h =
     case-bool (eqb (accountOf l (accountAt l i .job)) (suc i))
     (λ t.
-    if-true _ _ t ∙ times-one (accountAt l i .job) j
+    if-true _ _ t ∙ times-single (accountAt l i .job) j
     ∙ one-false (ne-eqb (accountAt l i .job) j (λ e. h (ap (accountOf l) (sym e) ∙ eqb-true (accountOf l (accountAt l i .job)) (suc i) t))))
     (λ f. if-false _ _ f)
 
@@ -82,7 +78,7 @@ unfolding isNewest accountOf
 its l j i h =
     let e = newest-is (λ a. a .job) noAccount l j i h .1 in
     if-true _ _ (eq-eqb (accountOf l (accountAt l i .job)) (suc i) (ap (accountOf l) e ∙ h))
-    ∙ times-one (accountAt l i .job) j ∙ one-true (eq-eqb (accountAt l i .job) j e)
+    ∙ times-single (accountAt l i .job) j ∙ one-true (eq-eqb (accountAt l i .job) j e)
 
 one-off : (l : List Account) (j k : ℕ) → accountOf l j ≡ k → PutOffFrom l (booked k 0 1 l) (j ∷ [])
 one-off l j zero h =
@@ -127,7 +123,7 @@ and-then {l} {m} {n} j jobs p q =
           let same : isNewest m i ≡ isNewest l i = ap (λ k. eqb k (suc i)) (ap (accountOf m) (p .job i) ∙ p .account (accountAt l i .job)) in
           sum-up (isNewest l i) (timesIn (accountAt l i .job) (j ∷ [])) (timesIn (accountAt l i .job) jobs) (timesIn (accountAt l i .job) (j ∷ jobs))
           (accountAt l i .putoff) (accountAt m i .putoff) (accountAt n i .putoff)
-          (times-cons (accountAt l i .job) j jobs ∙ ap (λ n. n + timesIn (accountAt l i .job) jobs) (sym (times-one (accountAt l i .job) j))) one
+          (times-cons (accountAt l i .job) j jobs ∙ ap (λ n. n + timesIn (accountAt l i .job) jobs) (sym (times-single (accountAt l i .job) j))) one
           (rw (same, p .job i) at rest));
     }
   where

@@ -1,12 +1,12 @@
 -- The simulation at the start, and through waking.
-use Prim.Native.Nat.{ℕ, zero, suc, _<_}
+use Prim.Native.Nat.{ℕ, _<_}
 use mathlib.Core.Path.{_≡_, refl, ap}
 use mathlib.Core.Bool.{Bool, true, false}
 use mathlib.Core.List.{List, []}
 use native.Mathlib.Nat.{not-suc-le-zero}
-use lib.ListN.{getD, replicate}
 use Rattle.laws.specs.Order.{Before}
 use Rattle.laws.proofs.Choice.{true-not-false}
+use Rattle.laws.proofs.Columns.{getD-repeated}
 use Rattle.ceiling.specs.Columns.{Columns}
 use Rattle.ceiling.specs.Steps.{fresh}
 use Rattle.ceiling.proofs.Invariant.{inv-fresh, inv-leave}
@@ -18,18 +18,13 @@ use Rattle.rules.specs.Windows.{woken}
 use Rattle.rules.specs.Tally.{Tally, noTally}
 use Rattle.rules.proofs.Sim.{costIn, presentRow, Ahead, Sim}
 
-getD-constant : {A : Type 0} (a : A) (n j : ℕ) → getD (replicate n a) j a ≡ a
-getD-constant a zero j = refl
-getD-constant a (suc n) zero = refl
-getD-constant a (suc n) (suc j) = getD-constant a n j
-
 pub none-present : (u : Setup) (j : ℕ) → isPresent (freshState u) j ≡ false
 unfolding freshState emptyState
-none-present u j = getD-constant false 32 j
+none-present u j = getD-repeated false 32 j
 
 empty-queue : (u : Setup) (t : ℕ) → queueOf (freshState u) t ≡ []
 unfolding freshState emptyState
-empty-queue u t = ap listOf (getD-constant zeroList 4 t)
+empty-queue u t = ap listOf (getD-repeated zeroList 4 t)
 
 nobody-ahead : (u : Setup) (a b : ℕ) → Ahead (freshState u) [] a b → ⊥
 unfolding Before

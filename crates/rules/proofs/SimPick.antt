@@ -12,7 +12,8 @@ use lib.ListN.{length, length-set}
 use Rattle.laws.specs.Update.{upd}
 use Rattle.laws.specs.Onto.{near}
 use Rattle.laws.proofs.Choice.{true-not-false}
-use Rattle.laws.proofs.Update.{upd-same, upd-other, at-or-off}
+use Rattle.laws.proofs.Update.{upd-same, upd-other, at-or-off, upd-agree}
+use Rattle.laws.proofs.Onto.{near-same}
 use Rattle.ceiling.specs.Columns.{Columns}
 use Rattle.ceiling.specs.Steps.{Picking, pick}
 use Rattle.ceiling.proofs.Invariant.{Inv, inv-pick, inv-leave}
@@ -27,7 +28,7 @@ use Rattle.rules.proofs.Rows.{row-of-is}
 use Rattle.rules.proofs.EntryFacts.{present-below}
 use Rattle.rules.proofs.HandedOut.{CanHandOut, handed-waits-own, handed-waits-other, handed-picked-own, handed-picked-other}
 use Rattle.rules.proofs.Sim.{presentRow, jobLink, Ahead, RowIs, JobIs, Sim}
-use Rattle.rules.proofs.SimRows.{rows-apart, present-of, same-row-of, same-link, same-present, row-same, row-other, row-field, near-test}
+use Rattle.rules.proofs.SimRows.{rows-apart, present-of, same-row-of, same-link, same-present, row-same, row-other, row-field}
 
 -- what noting writes
 module _ (rows : List Row) (i picks total : ℕ) where
@@ -38,11 +39,6 @@ module _ (rows : List Row) (i picks total : ℕ) where
   pub noting-length : length (noting i picks total rows) ≡ length rows
   unfolding noting
   noting-length = length-set rows i _
-
--- columns that agree, written at the same place
-pub upd-agree : (f g : ℕ → ℕ) {a b v w : ℕ} → a ≡ b → v ≡ w → ((x : ℕ) → f x ≡ g x) → (x : ℕ) → upd f a v x ≡ upd g b w x
-unfolding upd
-upd-agree f g p q h x = rw (p, q, h x)
 
 -- a row after it, and the columns after a pick
 module _ {g : Columns} (rows : List Row) (i p q k : ℕ) (past : ℕ → Bool) (inside : i < length rows) (picks : p ≡ suc (g .picks (g .transport i)))
@@ -129,7 +125,7 @@ module _ {u : Setup} {w : State} {y : Tally} {g : Columns} (m : Sim u w y g) (sh
         parent =
             r .parent
             ∙ sym (link-noted (near (presentRow w (y .rows)) (g .names) (g .rows) l))
-            ∙ ap (jobLink noted) (sym (near-test (presentRow after noted) (presentRow w (y .rows)) (g .names) (g .rows) l present-noted));
+            ∙ ap (jobLink noted) (sym (near-same (presentRow after noted) (presentRow w (y .rows)) (g .names) (g .rows) l present-noted));
       }
 
   job-there : (x l : ℕ) → x ≢ j → JobIs w (y .rows) g x l → JobIs after noted (pick g i k past) x l

@@ -1,21 +1,21 @@
 -- The simulation through a whole pick.
 use Prim.Native.Nat.{ℕ, zero, suc, _+_, _≤_, _<_}
-use mathlib.Core.Path.{_≡_, refl, sym, _∙_, ap, subst}
+use mathlib.Core.Path.{_≡_, sym, _∙_, ap, subst}
 use mathlib.Core.Logic.{_≢_, _⊎_, inl, inr, ⊎-elim}
 use mathlib.Core.Bool.{Bool, true, false, _&&_}
-use mathlib.Core.List.{List, [], _∷_}
+use mathlib.Core.List.{List, []}
 use native.Mathlib.Decide.{ℕ-discrete}
-use native.Mathlib.Nat.{suc-inj, le-trans, lt-of-lt-of-le}
+use native.Mathlib.Nat.{suc-inj, lt-of-lt-of-le}
 use native.Mathlib.Omega.{arith}
 use lib.Dec.{ltb}
 use borrow.Author.Tests.{lt-ltb}
 use Rattle.laws.specs.Choice.{one}
 use Rattle.laws.specs.Order.{Before}
-use Rattle.laws.specs.Sequence.{holds, upTo, countIn, moveBefore}
+use Rattle.laws.specs.Sequence.{holds, upTo, moveBefore}
 use Rattle.laws.specs.Update.{upd}
-use Rattle.laws.proofs.Choice.{true-not-false, case-bool, true-of, and-both, one-true}
+use Rattle.laws.proofs.Choice.{true-not-false, case-bool, true-of, and-both}
 use Rattle.laws.proofs.Both.{and-3}
-use Rattle.laws.proofs.Sequence.{holds-cases}
+use Rattle.laws.proofs.Sequence.{count-in-pos-of}
 use Rattle.laws.proofs.Found.{up-to-in}
 use Rattle.laws.proofs.Once.{once-le}
 use Rattle.laws.proofs.Order.{before-total, before-up-to}
@@ -44,13 +44,6 @@ use Rattle.rules.proofs.SimPick.{sim-handed-out}
 use Rattle.rules.proofs.SimTally.{NamedAlike, naming-alike, Alike, overtaken-alike}
 use Rattle.rules.proofs.SimPreempt.{sim-preempting}
 
--- an element that passes is counted
-counted : (p : ℕ → Bool) (x : ℕ) (l : List ℕ) → holds x l ≡ true → p x ≡ true → 1 ≤ countIn p l
-unfolding holds countIn
-counted p x [] h t = true-not-false h refl
-counted p x (z ∷ l) h t =
-    ⊎-elim (λ e. omega (arith, one-true (subst (λ z. p z ≡ true) e t))) (λ k. le-trans (counted p x l k t) (omega arith)) (holds-cases x z l h)
-
 -- the rows that a pick goes past: of the waiting jobs before the current job b
 unfoldable pub wentPast : State → List Row → ℕ → ℕ → ℕ → Bool
 wentPast w rows t b i =
@@ -64,7 +57,7 @@ module _ (w : State) (rows : List Row) (t b i : ℕ) where
 
   past-counted : wentPast w rows t b i ≡ true → 1 ≤ passedOver w t b
   unfolding passedOver
-  past-counted h = let f = past-facts h in counted (λ j. ltb 0 (waitingOf w j)) (rowAt rows i .job) (upTo b (queueOf w t)) (f .1) (f .2)
+  past-counted h = let f = past-facts h in count-in-pos-of (λ j. ltb 0 (waitingOf w j)) (upTo b (queueOf w t)) (rowAt rows i .job) (f .1) (f .2)
 
   past-of : presentRow w rows i ≡ true → holds (rowAt rows i .job) (upTo b (queueOf w t)) ≡ true → 1 ≤ waitingOf w (rowAt rows i .job)
       → wentPast w rows t b i ≡ true

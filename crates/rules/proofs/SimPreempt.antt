@@ -13,8 +13,9 @@ use Rattle.laws.specs.Order.{Before}
 use Rattle.laws.specs.Sequence.{moveBefore}
 use Rattle.laws.specs.Update.{upd}
 use Rattle.laws.proofs.Choice.{true-not-false}
-use Rattle.laws.proofs.Update.{upd-same, upd-other, upd-all}
+use Rattle.laws.proofs.Update.{upd-same, upd-other, upd-all, upd-agree-at}
 use Rattle.laws.proofs.Chain.{first-along-here, first-along-same}
+use Rattle.laws.proofs.Onto.{near-same}
 use Rattle.laws.proofs.Once.{once-le}
 use Rattle.laws.proofs.Order.{before-trans}
 use Rattle.laws.proofs.MoveOrder.{before-move-from, before-move-after-cases, before-move-ahead-from}
@@ -33,15 +34,11 @@ use Rattle.rules.proofs.Shape.{Shaped}
 use Rattle.rules.proofs.Picked.{Current, queue-once}
 use Rattle.rules.proofs.Preemptor.{Preempts}
 use Rattle.rules.proofs.Sim.{costIn, presentRow, jobLink, Ahead, RowIs, JobIs, Sim}
-use Rattle.rules.proofs.SimRows.{row-inside, rows-apart, present-of, same-row-of, same-link, same-present, near-test}
+use Rattle.rules.proofs.SimRows.{row-inside, rows-apart, present-of, same-row-of, same-link, same-present}
 use Rattle.rules.proofs.SimChain.{link-to-job}
 use Rattle.rules.proofs.SimTally.{NamedAlike, naming-alike, naming-names, Alike, overtaken-alike, overtaken-column}
 use Rattle.rules.proofs.SimOvertaking.{over-after}
 use Rattle.rules.proofs.Preempted.{preempting-waits, preempting-queue-own, preempting-queue-other, preempting-sold-own, preempting-sold-other, preempting-parent-own, preempting-parent-other, preempting-marked-own, preempting-marked-other}
-
-upd-agree-at : (f g : ℕ → ℕ) (a v x : ℕ) → f x ≡ g x → upd f a v x ≡ upd g a v x
-unfolding upd
-upd-agree-at f g a v x h = rw h
 
 module _ {u : Setup} {w : State} {y : Tally} {g : Columns} (m : Sim u w y g) (shaped : Shaped w) (sound : Sound w) (now t b x bi xi : ℕ)
     (below : t < w .setup .transports) (cur : Current w t b) (p : Preempts w now t b x) (eb : rowOf (y .rows) b ≡ suc bi)
@@ -224,7 +221,7 @@ module _ {u : Setup} {w : State} {y : Tally} {g : Columns} (m : Sim u w y g) (sh
   up-other : (i : ℕ) → i < g .rows → i ≢ xi → near (presentRow after rows) (g' .names) (g .rows) i ≡ near (presentRow w (y .rows)) (g .names) (g .rows) i
   unfolding near
   up-other i l ne =
-      near-test (presentRow after rows) (presentRow w (y .rows)) (g' .names) (g .rows) i present-after
+      near-same (presentRow after rows) (presentRow w (y .rows)) (g' .names) (g .rows) i present-after
       ∙ first-along-same (g' .names) (g .names) (λ z. (z < g .rows) × (z ≢ xi)) away (λ z o. upd-other (g .names) xi (suc bi) z (o .1))
       (presentRow w (y .rows)) (g .rows) (g' .names i) (λ z e. away i z (l, ne) e)
       ∙ ap (firstAlong (presentRow w (y .rows)) (g .names) (g .rows)) (upd-other (g .names) xi (suc bi) i ne)

@@ -15,7 +15,7 @@ use Rattle.laws.specs.Onto.{near}
 use Rattle.laws.specs.Order.{Before}
 use Rattle.laws.proofs.Choice.{true-not-false, case-bool, true-of, false-of, bool-same, if-true, if-false, if-cases, and-both, and-left, and-right, and-right-false}
 use Rattle.laws.proofs.Chain.{link-cases, ends-zero, first-along-enough, first-along-here, first-along-next, first-along-zero}
-use Rattle.laws.proofs.Onto.{ends-near, first-near}
+use Rattle.laws.proofs.Onto.{ends-near, first-near, near-same}
 use Rattle.laws.proofs.Order.{before-kept}
 use Rattle.ceiling.specs.Columns.{Columns, sold}
 use Rattle.ceiling.specs.Steps.{drop}
@@ -34,7 +34,7 @@ use Rattle.rules.proofs.EntryFacts.{present-below}
 use Rattle.rules.proofs.ReportedFacts.{settledBy, reportedBy, ReportLeaves, report-leaves, reported-waiting-le, reported-was-present, left-waiting, reported-queue, stays-are-present, reported-parent}
 use Rattle.rules.proofs.Rows.{row-of-is}
 use Rattle.rules.proofs.Sim.{presentRow, jobLink, Ahead, RowIs, JobIs, Sim}
-use Rattle.rules.proofs.SimRows.{row-inside, present-of, present-row-is, near-test}
+use Rattle.rules.proofs.SimRows.{row-inside, present-of, present-row-is}
 use Rattle.rules.proofs.SimChain.{up, up-present, parent-up}
 
 module _ {u : Setup} {w : State} {y : Tally} {g : Columns} (m : Sim u w y g) (now e : ℕ) (outcome : Outcome) (shaped : Shaped w) (sound : Sound w)
@@ -118,7 +118,7 @@ module _ {u : Setup} {w : State} {y : Tally} {g : Columns} (m : Sim u w y g) (no
       (first-along-enough rowStays (up m) (g .rows) (32 + g .rows) (up m i) (omega arith)
       (ends-near (presentRow w (y .rows)) (g .names) (g .rows) (g .rows) (g .names i) (omega arith) (ends-names i l))
       ∙ first-near (presentRow w (y .rows)) (g .names) (g .rows) rowStays (g .rows) (g .names i) (omega arith) (ends-names i l)
-      ∙ sym (near-test (presentRow after (y .rows)) (λ i. presentRow w (y .rows) i && rowStays i) (g .names) (g .rows) i (λ i. unfold rowStays in present-after i)))
+      ∙ sym (near-same (presentRow after (y .rows)) (λ i. presentRow w (y .rows) i && rowStays i) (g .names) (g .rows) i (λ i. unfold rowStays in present-after i)))
 
   jobs-after : (j : ℕ) → isPresent after j ≡ true → (i : ℕ) × JobIs after (y .rows) (drop g left) j i
   jobs-after j h =

@@ -2,15 +2,14 @@
 use Prim.Native.Nat.{ℕ, zero, suc, _<_}
 use mathlib.Core.Path.{_≡_, refl, sym, _∙_, ap, ap₂}
 use mathlib.Core.Logic.{_≢_}
-use mathlib.Core.Bool.{Bool, true, false, _&&_}
+use mathlib.Core.Bool.{true, false, _&&_}
 use mathlib.Core.List.{List}
 use native.Mathlib.Nat.{suc-inj}
 use lib.ListN.{length, getD, set, length-set}
 use lib.Seq.{getD-set-same, getD-set-other}
 use lib.Dec.{eqb}
 use borrow.Author.Tests.{eqb-true, eq-eqb}
-use Rattle.laws.specs.Chain.{endsIn, firstAlong}
-use Rattle.laws.specs.Onto.{near}
+use Rattle.laws.specs.Chain.{endsIn}
 use Rattle.laws.proofs.Choice.{and-both, and-left, and-right}
 use Rattle.laws.proofs.Newest.{set-field}
 use Rattle.ceiling.specs.Columns.{Columns}
@@ -71,13 +70,3 @@ module _ (rows : List Row) (i : ℕ) (new : Row) where
 
   pub row-field : (f : Row → ℕ) → f new ≡ f (rowAt rows i) → (k : ℕ) → f (rowAt (set rows i new) k) ≡ f (rowAt rows k)
   row-field = set-field noRow rows i new
-
--- near reads the test pointwise
-pub near-test : (p q : ℕ → Bool) (next : ℕ → ℕ) (n i : ℕ) → ((k : ℕ) → p k ≡ q k) → near p next n i ≡ near q next n i
-unfolding near firstAlong
-near-test p q next n i h = first-along-test n (next i)
-  where
-    first-along-test : (n k : ℕ) → firstAlong p next n k ≡ firstAlong q next n k
-    first-along-test zero k = refl
-    first-along-test (suc n) zero = refl
-    first-along-test (suc n) (suc x) = rw (h x, first-along-test n (next x))

@@ -1,6 +1,5 @@
 pub mod Counted
 pub mod JobLaws
-pub mod Laws
 pub mod ListLaws
 pub mod OrderLaws
 pub mod PairLaws

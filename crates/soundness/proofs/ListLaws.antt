@@ -19,14 +19,13 @@ use Rattle.laws.proofs.Choice.{true-not-false, bool-same, false-of, and-both, a
 use Rattle.laws.proofs.All.{any-of, any-none, any-false-at, any-witness}
 use Rattle.laws.proofs.Count.{count-step, count-more}
 use Rattle.laws.proofs.Index.{holds-take, times-take}
-use Rattle.laws.proofs.Once.{EachOnce, once-facts, once-of, once-times}
+use Rattle.laws.proofs.Once.{EachOnce, once-facts, once-of, once-times, each-once-same}
 use Rattle.laws.proofs.Sequence.{every-at, every-append-both, holds-append-cases, holds-cases, holds-getD}
 use Rattle.laws.proofs.Falling.{falling-last, falling-getD}
 use Rattle.laws.proofs.Columns.{getD-default}
 use Rattle.rules.specs.declared.JobList.{JobList}
 use Rattle.rules.specs.State.{at, zeroList, listOf}
 use Rattle.soundness.specs.Columns.{queueTest}
-use Rattle.soundness.proofs.Laws.{each-once-same}
 
 -- after n places of l, the table has those that pass the test and were not met
 pub record Left (p : ℕ → Bool) (l : List ℕ) (n : ℕ) (left : List Bool) : Type 0 where

@@ -1,6 +1,6 @@
 -- The tables of `mark_order` and `mark_orders`.
 use Prim.Native.Nat.{ℕ, _+_, _*_, _≤_, _<_}
-use mathlib.Core.Bool.{Bool, true, false, _||_}
+use mathlib.Core.Bool.{Bool, true, false, _||_, or-false}
 use mathlib.Core.Path.{_≡_, refl, sym, _∙_, ap}
 use mathlib.Core.Logic.{_≢_}
 use mathlib.Core.List.{List}
@@ -13,14 +13,14 @@ use borrow.Author.Tests.{ltb-true, eqb-true, eq-eqb, ne-eqb, le-leb, lt-leb}
 use Rattle.laws.specs.Range.{allTo, anyTo, countTo, tableTo}
 use Rattle.laws.specs.Sequence.{holds, timesIn, everyIn}
 use Rattle.laws.proofs.Choice.{true-not-false, false-of, and-both, and-left-false, and-right-false, or-right, one-true, one-false}
-use Rattle.laws.proofs.All.{any-step, any-of, any-false-at, all-false-of}
+use Rattle.laws.proofs.All.{any-step, any-of, any-false-at, all-false-of, all-more}
 use Rattle.laws.proofs.Count.{count-step, count-none, count-any, count-more}
 use Rattle.laws.proofs.Sequence.{every-at, every-from, times-positive}
+use Rattle.laws.proofs.Index.{holds-table, times-table}
 use Rattle.rules.specs.State.{at}
 use Rattle.rules.specs.Sound.{implies}
 use Rattle.rules.proofs.RangeFacts.{implies-at, implies-of}
 use Rattle.soundness.specs.Columns.{orderList, distinct, orderTest, Marked, OrdersMarked}
-use Rattle.soundness.proofs.Laws.{holds-table, times-table, all-more}
 
 -- the first k numbers of f are marked in the table from base on, and none stands twice
 pub record Seen (f : ℕ → ℕ) (base k : ℕ) (before table : List Bool) : Type 0 where
@@ -64,12 +64,8 @@ module _ (f : ℕ → ℕ) (base : ℕ) (before : List Bool) where
         off : (d : ℕ) → d ≢ x → eqb d (f k) ≡ false
         off d ne = ne-eqb d (f k) (λ q. ne (q ∙ sym e))
 
-        or-last : (b : Bool) → b || false ≡ b
-        or-last true = refl
-        or-last false = refl
-
         other : (d : ℕ) → d ≢ x → anyTo (λ i. eqb d (f i)) k || eqb d (f k) ≡ anyTo (λ i. eqb d (f i)) k
-        other d ne = rw (off d ne) (or-last (anyTo (λ i. eqb d (f i)) k))
+        other d ne = rw (off d ne) (or-false (anyTo (λ i. eqb d (f i)) k))
 
     pub seen-twice : (n : ℕ) → k < n → getD table (base + x) false ≡ true → Marked (tableTo f n) base before table false
     unfolding distinct

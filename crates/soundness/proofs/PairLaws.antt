@@ -1,9 +1,8 @@
 -- The rows and the columns of the table of jobs and destinations.
 use Prim.Native.Nat.{ℕ, zero, suc, _+_, _*_, _≤_, _<_}
-use mathlib.Core.Bool.{Bool, true, _&&_}
+use mathlib.Core.Bool.{Bool, true, _&&_, and-comm}
 use mathlib.Core.Path.{_≡_, refl, sym, _∙_, ap}
 use mathlib.Core.List.{List}
-use native.Mathlib.Numerals.{add-one}
 use native.Mathlib.Omega.{arith}
 use lib.Dec.{eqb}
 use lib.ListN.{length, set, length-set}
@@ -12,23 +11,11 @@ use borrow.Author.Tests.{eq-eqb, ne-eqb, eqb-true}
 use Rattle.laws.specs.Choice.{one}
 use Rattle.laws.specs.Range.{countTo, sumTo}
 use Rattle.laws.proofs.Choice.{case-bool, bool-same, and-both, and-left, and-right, and-left-false, and-right-false, one-false}
-use Rattle.laws.proofs.Sum.{sum-eq, sum-zero, sum-add, sum-suc, sum-more, sum-change}
+use Rattle.laws.proofs.Sum.{sum-eq, sum-zero, sum-add, sum-change}
 use Rattle.laws.proofs.Count.{count-le-bound}
+use Rattle.laws.proofs.Columns.{set-more}
 use Rattle.rules.specs.State.{at}
 use Rattle.soundness.specs.Columns.{tallyTo, Counts}
-use Rattle.soundness.proofs.Laws.{fill-turn}
-
--- one turn of a loop that sums
-
-pub sum-nothing : (f : ℕ → ℕ) → 0 ≡ sumTo f 0
-unfolding sumTo
-sum-nothing f = refl
-
-pub sum-turn : (f : ℕ → ℕ) (i sum : ℕ) → sum ≡ sumTo f i → sum + f i ≡ sumTo f (i + 1)
-sum-turn f i sum e = rw add-one (omega (arith, e, sum-suc f i))
-
-pub sum-fits : (f : ℕ → ℕ) (i n sum most : ℕ) → i < n → sum ≡ sumTo f i → sumTo f n ≤ most → sum + f i ≤ most
-sum-fits f i n sum most l e h = omega (arith, e, sum-suc f i, sum-more f (suc i) n (omega arith))
 
 -- to the first d places of a table of 32 something is added
 pub record Added (f : ℕ → ℕ) (before after : List ℕ) (d : ℕ) : Type 0 where
@@ -47,15 +34,12 @@ module _ (f : ℕ → ℕ) (before after : List ℕ) (d : ℕ) (s : Added f befo
   added-more =
       record {
         size = length-set after d (at after d + f d) ∙ s .size;
-        done = fill-turn 0 (λ i. at before i + f i) after d (at after d + f d) (omega (arith, s .size)) (omega (arith, s .rest d (omega arith))) (s .done);
+        done = set-more (λ i. at before i + f i) after d (at after d + f d) 0 (omega (arith, s .size)) (s .done) (omega (arith, s .rest d (omega arith)));
         rest = λ i m. getD-set-other after d i (at after d + f d) 0 (omega arith) ∙ s .rest i (omega arith);
       }
 
-and-swap : (a b : Bool) → a && b ≡ b && a
-and-swap a b = bool-same (λ t. and-both (and-right a b t) (and-left a b t)) (λ t. and-both (and-right b a t) (and-left b a t))
-
 -- the place of a job and a destination is no other pair's
-pair-test : (x y j d : ℕ) → y < 32 → d < 32 → eqb (32 * x + y) (32 * j + d) ≡ eqb x j && eqb y d
+pub pair-test : (x y j d : ℕ) → y < 32 → d < 32 → eqb (32 * x + y) (32 * j + d) ≡ eqb x j && eqb y d
 pair-test x y j d l m =
     bool-same (λ t. let e = eqb-true (32 * x + y) (32 * j + d) t in and-both (eq-eqb x j (omega arith)) (eq-eqb y d (omega arith)))
     (λ t.
@@ -115,7 +99,7 @@ module _ (kind job destination table : List ℕ) (n : ℕ) (s : Counts kind 1 (�
       (λ j m. s .counts (32 * j + d) (omega arith))
       ∙ count-line (λ e. eqb (at kind e) 1) (λ e. eqb (at destination e) d) (λ e. 32 * at job e + at destination e) (at job) (λ j. 32 * j + d) n
       (λ e m t. inside e m (eqb-true (at kind e) 1 t) .0)
-      (λ e m t j b. pair-test (at job e) (at destination e) j d (inside e m (eqb-true (at kind e) 1 t) .1) l ∙ and-swap (eqb (at job e) j) (eqb (at destination e) d))
+      (λ e m t j b. pair-test (at job e) (at destination e) j d (inside e m (eqb-true (at kind e) 1 t) .1) l ∙ and-comm (eqb (at job e) j) (eqb (at destination e) d))
 
   pub row-fits : (j : ℕ) → j < 32 → sumTo (λ d. at table (32 * j + d)) 32 ≤ n
   unfolding tallyTo

@@ -1,10 +1,10 @@
 -- A state that comes in by value has its shape: the lengths of its arrays are in its type.
 use Prim.Native.Nat.{ℕ, zero, suc, _<_}
-use mathlib.Core.Path.{_≡_, sym, subst}
+use mathlib.Core.Path.{_≡_, sym, _∙_, subst}
 use mathlib.Core.List.{List, [], _∷_, map}
 use native.Mathlib.Nat.{not-suc-le-zero}
 use native.Mathlib.Omega.{arith}
-use lib.ListN.{length, getD}
+use lib.ListN.{length, getD, length-map}
 use base.Fml.{Fml}
 use denote.Array.{each}
 use denote.Laws.{Is}
@@ -17,9 +17,12 @@ use Rattle.rules.specs.State.{zeroList}
 use Rattle.rules.proofs.Shape.{Shaped}
 use Rattle.rules.proofs.State.{the-type}
 use Rattle.rules.proofs.State.Laws.{the-laws}
-use Rattle.soundness.proofs.Laws.{length-of-map}
 
--- what owning an array of records tells of one of them
+-- what owning an array of structs tells of its length
+pub length-of-map : (X Y : Type 0) (f : X → Y) (l : List X) (n : ℕ) → length (map f l) ≡ n → length l ≡ n
+length-of-map X Y f l n e = sym (length-map l f) ∙ e
+
+-- and of one of them
 each-at : {X D : Type 0} (f : X → D) (own : D → List Val → Fml) (l : List X) (us : List Val) (i : ℕ) (d : X) → i < length l
     → shadow (each D own (map f l) us) → (v : List Val) × shadow (own (f (getD l i d)) v)
 each-at f own [] us i d h p = absurd (not-suc-le-zero h)

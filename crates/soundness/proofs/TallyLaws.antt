@@ -15,12 +15,11 @@ use borrow.Author.Tests.{eq-eqb, ne-eqb, lt-ltb, le-ltb}
 use Rattle.laws.specs.Range.{allTo, countTo, sumTo}
 use Rattle.laws.proofs.Choice.{true-not-false, false-of, and-both, and-left-false, and-right-false, and-left, and-right, or-left, or-right, or-neither, one-true, one-false}
 use Rattle.laws.proofs.Both.{and-4}
-use Rattle.laws.proofs.All.{all-false-of}
+use Rattle.laws.proofs.All.{all-false-of, all-more}
 use Rattle.laws.proofs.Count.{count-step, count-le-bound}
 use Rattle.rules.specs.State.{at}
 use Rattle.soundness.specs.declared.Tally.{Tally}
 use Rattle.soundness.specs.Columns.{Columns, belongsTest, entryTest, tallyTo, Counts, Tallied}
-use Rattle.soundness.proofs.Laws.{all-more}
 use Rattle.soundness.proofs.PairLaws.{row-is, row-fits, column-is, column-fits}
 
 module _ (kind : List ℕ) (v : ℕ) (key : ℕ → ℕ) (m : ℕ) where

@@ -1,7 +1,7 @@
 -- The test of a set-up, and its first destinations, as the code goes about them.
-use Prim.Native.Nat.{ℕ, zero, suc, _+_, _≤_, _<_}
+use Prim.Native.Nat.{ℕ, _+_, _≤_, _<_}
 use mathlib.Core.Bool.{Bool, true, false, not, _&&_}
-use mathlib.Core.Path.{_≡_, refl, sym, _∙_}
+use mathlib.Core.Path.{_≡_, sym, _∙_}
 use mathlib.Core.List.{List, _++_}
 use native.Mathlib.Numerals.{add-one}
 use native.Mathlib.Omega.{arith}
@@ -11,7 +11,8 @@ use borrow.Author.Tests.{lt-ltb, le-ltb, not-true, not-false}
 use Rattle.laws.specs.Choice.{if_then_else_}
 use Rattle.laws.specs.Range.{allTo, tableTo}
 use Rattle.laws.proofs.Choice.{and-left, and-right}
-use Rattle.laws.proofs.Table.{table-drop}
+use Rattle.laws.proofs.Fill.{table-drop, table-rest}
+use Rattle.laws.proofs.Columns.{getD-repeated}
 use Rattle.rules.specs.declared.Setup.{Setup}
 use Rattle.rules.specs.declared.Sums.{Sums}
 use Rattle.rules.specs.declared.Health.the-variants.{Live}
@@ -19,7 +20,6 @@ use Rattle.rules.specs.declared.Destination.{Destination}
 use Rattle.rules.specs.State.{at, zeroSettings, zeroDestination}
 use Rattle.rules.specs.Setup.{within, settingsInRange, setupInRange, firstState, firstDestination}
 use Rattle.rules.proofs.RangeFacts.{within-facts}
-use Rattle.window.proofs.Fill.{table-rest}
 
 module _ (u : Setup) (a b : Bool) (ea : a ≡ within 1 4 (u .transports)) (eb : b ≡ within 1 32 (u .destinations)) where
   pub setup-refused : not (a && b) ≡ true → false ≡ setupInRange u
@@ -36,12 +36,6 @@ module _ (u : Setup) (a b : Bool) (ea : a ≡ within 1 4 (u .transports)) (eb : 
       → y ≡ allTo (λ d. ltb (at (u .home) d) (u .transports)) (u .destinations) → x && y ≡ setupInRange u
   unfolding setupInRange
   setup-tested x y h ex ey = rw (← ea, ← eb, not-false (a && b) h, ex, ey)
-
--- General: for `laws`.
-pub getD-repeated {ℓ} : {A : Type ℓ} (z : A) (n i : ℕ) → getD (replicate n z) i z ≡ z
-getD-repeated z zero i = refl
-getD-repeated z (suc n) zero = refl
-getD-repeated z (suc n) (suc i) = getD-repeated z n i
 
 module _ (u : Setup) where
   -- the destinations with those below d in their first state, the others zeros

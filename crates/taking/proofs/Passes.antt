@@ -1,64 +1,28 @@
 -- One turn of each pass over a column.
-use Prim.Native.Nat.{ℕ, zero, suc, _+_, _-_, _≤_, _<_}
+use Prim.Native.Nat.{ℕ, zero, _+_, _-_, _≤_, _<_}
 use mathlib.Core.Bool.{Bool, true, false, not}
 use mathlib.Core.Path.{_≡_, refl, sym, ap, _∙_}
-use mathlib.Core.Logic.{_≢_}
-use mathlib.Core.List.{List, [], _∷_, _++_, append-assoc}
+use mathlib.Core.List.{List, [], _∷_, _++_}
 use native.Mathlib.Numerals.{add-one}
 use native.Mathlib.Decide.{ℕ-discrete}
 use native.Mathlib.Omega.{arith}
-use lib.ListN.{length, getD, take, drop, set, length-append, length-drop, length-set, replicate, getD-replicate}
-use lib.Seq.{drop-cons, set-append-seam, take-length, getD-set-same, getD-set-other}
-use borrow.Author.Tests.{ne-eqb}
+use lib.ListN.{length, getD, take, set, length-set, replicate, getD-replicate}
+use lib.Seq.{take-length, getD-set-same, getD-set-other}
 use Rattle.laws.specs.Choice.{if_then_else_}
-use Rattle.laws.specs.Range.{countTo, chosenTo, foldTo}
-use Rattle.laws.specs.Sequence.{keep, padded, everyIn, holds, firstsTo}
-use Rattle.laws.proofs.Choice.{if-true, if-false, not-is-true, not-is-false, false-of, true-not-false, case-bool}
-use Rattle.laws.proofs.Sequence.{every-getD, holds-append, holds-append-right, holds-head}
+use Rattle.laws.specs.Range.{chosenTo, foldTo}
+use Rattle.laws.specs.Sequence.{keep, padded, holds, firstsTo}
+use Rattle.laws.proofs.Choice.{not-is-true, not-is-false}
+use Rattle.laws.proofs.Sequence.{holds-append-right, holds-head, holds-append-other}
 use Rattle.laws.proofs.Firsts.{firsts-seen, firsts-new, firsts-length}
-use Rattle.laws.proofs.Count.{count-le-bound}
-use Rattle.laws.proofs.First.{length-chosen, chosen-step, chosen-below, chosen-passes, chosen-place, chosen-at}
+use Rattle.laws.proofs.First.{length-chosen-le, chosen-hit, chosen-miss}
 use Rattle.laws.proofs.Table.{fold-step}
-use Rattle.lists.proofs.Building.{put-at, keep-put, keep-skip, length-keep-take, length-snoc}
+use Rattle.laws.proofs.Front.{length-front, front-more, length-snoc}
+use Rattle.laws.proofs.Building.{put-at, keep-put, keep-skip, length-keep-take}
 use Rattle.rules.specs.State.{at}
 use Rattle.rules.specs.Calls.{written}
 use Rattle.rules.specs.Taking.{filled}
 use Rattle.taking.specs.declared.new_job.Parts.{Parts}
 use Rattle.taking.specs.Columns.{keptBy, putOffBy, Parted}
-
--- Chosen numbers.
-
-module _ (p : ℕ → Bool) where
-  pub chosen-more : (i : ℕ) → p i ≡ true → chosenTo p (i + 1) ≡ chosenTo p i ++ (i ∷ [])
-  chosen-more i t = chosen-step p i ∙ if-true _ _ t
-
-  pub chosen-skip : (i : ℕ) → p i ≡ false → chosenTo p (i + 1) ≡ chosenTo p i
-  chosen-skip i f = chosen-step p i ∙ if-false _ _ f
-
-  pub chosen-few : (i : ℕ) → length (chosenTo p i) ≤ i
-  chosen-few i = omega (arith, length-chosen p i, count-le-bound p i)
-
-  -- the first of them are the same, however far the choice goes
-  pub chosen-prefix : (m n i : ℕ) → m ≤ n → i < countTo p m → at (chosenTo p m) i ≡ at (chosenTo p n) i
-  chosen-prefix m n i h l =
-      let x = at (chosenTo p m) i in
-      let e = chosen-at p 0 n x (omega (arith, chosen-below p 0 m i l)) (chosen-passes p 0 m i l) in
-      sym (rw (chosen-place p 0 m i l) at e)
-
--- Values written from the front of a buffer.
-
-pub written-more : (vs l : List ℕ) (x : ℕ) → length vs < length l → set (written vs l) (length vs) x ≡ written (vs ++ (x ∷ [])) l
-written-more vs l x h =
-    let e : length (vs ++ (x ∷ [])) ≡ suc (length vs) = length-snoc vs x ∙ add-one (length vs) in
-    rw (drop-cons l (length vs) 0 h, e, append-assoc) (set-append-seam vs (getD l (length vs) 0) (drop (suc (length vs)) l) x)
-
-pub length-written : (vs l : List ℕ) → length vs ≤ length l → length (written vs l) ≡ length l
-length-written vs l h = omega (arith, length-append vs (drop (length vs) l), length-drop (length vs) l)
-
--- A test that fails at one place.
-
-pub every-fails : (p : ℕ → Bool) (l : List ℕ) (i : ℕ) → i < length l → p (at l i) ≡ false → false ≡ everyIn p l
-every-fails p l i h f = sym (false-of λ t. true-not-false (every-getD p l t i 0 h) f)
 
 -- Places filled.
 
@@ -78,7 +42,7 @@ pub record Parting (dead : List Bool) (dests before after kept : List ℕ) (n m 
 
 module _ {dead : List Bool} {dests before after kept : List ℕ} {n m i : ℕ} (r : Parting dead dests before after kept n m i) where
   pub parting-found : m ≤ i
-  parting-found = omega (arith, r .found, chosen-few (λ k. getD dead (at dests k) false) i)
+  parting-found = omega (arith, r .found, length-chosen-le (λ k. getD dead (at dests k) false) i)
 
   pub parting-count : n ≤ i
   parting-count = omega (arith, r .count, length-keep-take (λ d. not (getD dead d false)) dests i (r .bound))
@@ -86,7 +50,7 @@ module _ {dead : List Bool} {dests before after kept : List ℕ} {n m i : ℕ} (
   pub parting-length : length dests ≤ length before → length after ≡ length before
   parting-length lent =
       let q : ℕ → Bool = λ k. getD dead (at dests k) false in
-      ap length (r .list) ∙ length-written (chosenTo q i) before (omega (arith, r .bound, chosen-few q i))
+      ap length (r .list) ∙ length-front (chosenTo q i) before (omega (arith, r .bound, length-chosen-le q i))
 
 module _
     {dead : List Bool}
@@ -107,15 +71,15 @@ module _
   parting-dead t wrote same still more =
       let q : ℕ → Bool = λ k. getD dead (at dests k) false in
       let p : ℕ → Bool = λ d. not (getD dead d false) in
-      let e = chosen-more q i t in
+      let e = chosen-hit q i t in
       let k = keep-skip p dests i 256 h (r .built) (r .count) (not-is-false t) same still in
-      let room : length (chosenTo q i) < length before = omega (arith, chosen-few q i) in
+      let room : length (chosenTo q i) < length before = omega (arith, length-chosen-le q i) in
       record {
         bound = omega arith;
         built = k .0;
         count = k .1;
         found = more ∙ ap (λ x. x + 1) (r .found) ∙ sym (length-snoc (chosenTo q i) i) ∙ ap length (sym e);
-        list = wrote ∙ rw (r .list, r .found, e) (written-more (chosenTo q i) before i room);
+        list = wrote ∙ rw (r .list, r .found, e) (front-more (chosenTo q i) before i room);
       }
 
   pub parting-live :
@@ -129,7 +93,7 @@ module _
   parting-live f same wrote more still =
       let q : ℕ → Bool = λ k. getD dead (at dests k) false in
       let p : ℕ → Bool = λ d. not (getD dead d false) in
-      let e = chosen-skip q i f in
+      let e = chosen-miss q i f in
       let k = keep-put p dests i 256 h (r .built) (r .count) (omega arith) (not-is-true f) wrote more in
       record {
         bound = omega arith;
@@ -163,10 +127,6 @@ pub seen-none : (kept : List ℕ) → Seen kept (replicate 32 false) (padded 32 
 unfolding firstsTo holds
 seen-none kept = record { size = refl; table = λ d h. getD-replicate 32 d false false h; built = refl; count = refl }
 
-holds-snoc-other : (d k : ℕ) (l : List ℕ) → d ≢ k → holds d (l ++ (k ∷ [])) ≡ holds d l
-unfolding holds
-holds-snoc-other d k l ne = holds-append d l (k ∷ []) ∙ rw (ne-eqb d k ne) (case-bool (holds d l) (λ t. rw t) (λ f. rw f))
-
 module _ {kept : List ℕ} {seen : List Bool} {places : List ℕ} {m i : ℕ} (r : Seen kept seen places m i) (small : (k : ℕ) → k < i + 1 → at kept k < 32) where
   here-small : at kept i < 32
   here-small = small i (omega arith)
@@ -192,7 +152,7 @@ module _ {kept : List ℕ} {seen : List Bool} {places : List ℕ} {m i : ℕ} (r
         table = λ d below.
             ap (λ a. getD a d false) marked ∙ (elim (ℕ-discrete d (at kept i)) [
               | yes q ↦ rw (q, e) (getD-set-same seen (at kept i) true false (rw (r .size) here-small) ∙ sym (holds-append-right (at kept i) l (at kept i ∷ []) (holds-head (at kept i) [])))
-              | no ne ↦ getD-set-other seen (at kept i) d true false ne ∙ r .table d below ∙ sym (holds-snoc-other d (at kept i) l ne) ∙ ap (holds d) (sym e)
+              | no ne ↦ getD-set-other seen (at kept i) d true false ne ∙ r .table d below ∙ sym (holds-append-other d (at kept i) l ne) ∙ ap (holds d) (sym e)
             ]);
         built = wrote ∙ put-at 32 l (at kept i) (r .built) (r .count) (seen-room f) ∙ ap (padded 32) (sym e);
         count = more ∙ ap (λ x. x + 1) (r .count) ∙ sym (length-snoc l (at kept i)) ∙ ap length (sym e);

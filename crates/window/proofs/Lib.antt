@@ -1,4 +1,3 @@
-pub mod Fill
 pub mod Cases
 pub mod WindowLaws
 pub mod WakingLaws

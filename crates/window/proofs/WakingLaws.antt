@@ -11,7 +11,7 @@ use borrow.Author.Tests.{lt-ltb, le-ltb}
 use Rattle.laws.specs.Choice.{if_then_else_}
 use Rattle.laws.specs.Range.{anyTo, tableTo}
 use Rattle.laws.proofs.All.{any-false-at}
-use Rattle.laws.proofs.Table.{table-drop}
+use Rattle.laws.proofs.Fill.{table-drop, table-keep, table-rest}
 use Rattle.rules.specs.declared.Settings.{Settings}
 use Rattle.rules.specs.declared.Setup.{Setup}
 use Rattle.rules.specs.declared.Sums.{Sums}
@@ -22,7 +22,6 @@ use Rattle.rules.specs.State.{at, zeroSettings, zeroDestination}
 use Rattle.rules.specs.Setup.{firstState}
 use Rattle.rules.specs.Windows.{wokenHealth, wokenAt}
 use Rattle.window.specs.Waking.{isDue, dueAt}
-use Rattle.window.proofs.Fill.{table-keep, table-rest}
 
 -- One turn of the code's loop.
 

@@ -5,11 +5,11 @@ use mathlib.Core.Path.{_≡_, refl, sym, _∙_}
 use mathlib.Core.Bool.{true, false}
 use lib.ListN.{getD}
 use Rattle.laws.specs.Chain.{firstAlong}
+use Rattle.laws.proofs.Walk.{nearest-none, nearest-end, nearest-here, nearest-on}
 use Rattle.rules.specs.State.{at}
 use Rattle.charging.specs.Links.{leadsInside}
 use Rattle.charging.proofs.Leads.{leads-below, leads-next}
 use Rattle.leaving.specs.Columns.{nearestOf}
-use Rattle.leaving.proofs.Walk.{nearest-none, nearest-end, nearest-here, nearest-on}
 use Rattle.leaving.proofs.nearest.Statement.{statement}
 use Rattle.leaving.proofs.nearest.Tie as tie
 

@@ -6,7 +6,9 @@ use native.Mathlib.Omega.{arith}
 use lib.ListN.{length, take}
 use lib.Seq.{length-take-le}
 use Rattle.laws.specs.Sequence.{padded}
-use Rattle.lists.proofs.Building.{copy-step, put-at, listed-is, length-snoc}
+use Rattle.laws.proofs.Building.{copy-step, put-at}
+use Rattle.laws.proofs.Front.{length-snoc}
+use Rattle.lists.proofs.Listed.{listed-is}
 use Rattle.lists.proofs.append.Statement.{statement}
 use Rattle.lists.proofs.append.Tie as tie
 

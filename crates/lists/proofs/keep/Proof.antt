@@ -7,7 +7,8 @@ use mathlib.Core.Logic.{⊎-elim}
 use native.Mathlib.Omega.{arith}
 use lib.ListN.{length, take, getD}
 use Rattle.laws.specs.Sequence.{padded, keep}
-use Rattle.lists.proofs.Building.{put-at, keep-put, keep-skip, length-keep-take, listed-is, length-snoc}
+use Rattle.laws.proofs.Building.{keep-put, keep-skip, length-keep-take}
+use Rattle.lists.proofs.Listed.{listed-is}
 use Rattle.lists.proofs.keep.Statement.{statement}
 use Rattle.lists.proofs.keep.Tie as tie
 

@@ -9,7 +9,7 @@ use lib.Seq.{length-take-le}
 use Rattle.laws.specs.Sequence.{padded}
 use Rattle.laws.proofs.Sequence.{holds-of-times}
 use Rattle.laws.proofs.Move.{length-move}
-use Rattle.lists.proofs.Building.{put-at, listed-is, length-snoc}
+use Rattle.lists.proofs.Listed.{listed-is}
 use Rattle.lists.proofs.Moving.{moved, moved-is, moved-more-skip, moved-more-here, moved-more-other, moved-room, Ready, room-here, ready-here, ready-other, ready-put, skip-put}
 use Rattle.lists.proofs.move_before.Statement.{statement}
 use Rattle.lists.proofs.move_before.Tie as tie

@@ -3,7 +3,7 @@ use Prim.Native.Nat.{_≤_, _-_}
 use mathlib.Core.Path.{_≡_, refl, _∙_, ap}
 use native.Mathlib.Omega.{arith}
 use Rattle.laws.specs.Range.{allTo}
-use Rattle.startup.proofs.Loops.{all-none, all-turn}
+use Rattle.laws.proofs.All.{all-none, all-turn}
 use lib.Dec.{ltb}
 use Rattle.rules.specs.State.{at}
 use Rattle.startup.proofs.all_homes_there.Statement.{statement}

@@ -5,7 +5,7 @@ use mathlib.Core.Path.{_≡_, _∙_, ap}
 use native.Mathlib.Omega.{arith}
 use lib.ListN.{getD}
 use Rattle.laws.specs.Range.{allTo}
-use Rattle.startup.proofs.Loops.{all-none, all-turn}
+use Rattle.laws.proofs.All.{all-none, all-turn}
 use Rattle.rules.specs.State.{zeroSettings}
 use Rattle.rules.specs.Setup.{settingsInRange}
 use Rattle.startup.proofs.all_settings_in_range.Statement.{statement}

@@ -6,9 +6,9 @@ use native.Mathlib.Nat.{not-suc-le-zero}
 use native.Mathlib.Omega.{arith}
 use lib.Dec.{ltb}
 use lib.ListN.{length, getD, length-set}
+use Rattle.laws.proofs.Columns.{set-more}
 use Rattle.rules.specs.State.{at, zeroSettings}
 use Rattle.choice.specs.Columns.{isOpen}
-use Rattle.choice.proofs.Steps.{table-more}
 use Rattle.choice.proofs.entries.open_table.Statement.{statement}
 use Rattle.choice.proofs.entries.open_table.Tie as tie
 
@@ -81,7 +81,7 @@ loop-again c = let inside : c .before .before .before .before .before .before .b
   omega (arith, c .before .before .before .before .before .before .before .before .loop-test .taken, c .before .before .before .before .before .before .before .before .before .loop .inv .1),
   refl,
   length-set (c .before .before .before .before .before .before .before .before .before .loop .table) (c .before .before .before .before .before .before .before .before .before .loop .d) (c .before .before .has-room .result && c .has-agent .result) ∙ c .before .before .before .before .before .before .before .before .before .loop .inv .2,
-  table-more _ (c .before .before .before .before .before .before .before .before .before .loop .table) (c .before .before .before .before .before .before .before .before .before .loop .d) _ false inside (c .before .before .before .before .before .before .before .before .before .loop .inv .3)
+  set-more _ (c .before .before .before .before .before .before .before .before .before .loop .table) (c .before .before .before .before .before .before .before .before .before .loop .d) _ false inside (c .before .before .before .before .before .before .before .before .before .loop .inv .3)
       (ap₂ _&&_ (c .before .before .has-room .ensures) (c .has-agent .ensures
       ∙ ap (λ t. ltb (at (c .before .before .before .before .before .before .before .before .before .before .args .t2 .transport) t) (getD (c .before .before .before .before .before .before .before .before .before .before .args .t3 .settings) t zeroSettings .agents)) (c .before .before .before .before .before .before .place .ensures))),
 )

@@ -10,10 +10,11 @@ use lib.ListN.{getD}
 use borrow.Author.Count.{below-more}
 use borrow.Author.Tests.{lt-ltb, le-ltb}
 use Rattle.laws.proofs.Choice.{true-not-false}
+use Rattle.laws.proofs.Columns.{getD-default}
 use Rattle.rules.specs.State.{zeroList, listOf}
 use Rattle.choice.specs.Columns.{readyIn}
 use Rattle.choice.specs.Facts.{frontOf, aheadOf, hasFront, frontSteps}
-use Rattle.choice.proofs.Fronts.{getD-default, steps-at, steps-none}
+use Rattle.choice.proofs.Fronts.{steps-at, steps-none}
 use Rattle.choice.proofs.turns.next_transport.Statement.{statement}
 use Rattle.choice.proofs.turns.next_transport.Tie as tie
 

@@ -5,10 +5,9 @@ use mathlib.Core.Path.{_≡_, sym, _∙_}
 use mathlib.Core.Bool.{true}
 use borrow.Author.Tests.{not-true, not-false}
 use Rattle.laws.specs.Range.{allTo}
-use Rattle.laws.proofs.All.{all-false-of}
+use Rattle.laws.proofs.All.{all-false-of, all-none, all-more}
 use Rattle.rules.specs.State.{at}
 use Rattle.soundness.specs.Columns.{destinationTest}
-use Rattle.soundness.proofs.Laws.{all-none, all-more}
 use Rattle.rules.proofs.RangeFacts.{home-below}
 use Rattle.soundness.proofs.Ranges.{destinations-few, cohorts-few}
 use Rattle.soundness.proofs.destinations.destinations_right.Statement.{statement}

@@ -5,7 +5,7 @@ use mathlib.Core.Path.{_≡_, refl, _∙_, ap}
 use lib.Dec.{eqb}
 use Rattle.rules.specs.State.{at}
 use Rattle.laws.specs.Range.{allTo}
-use Rattle.soundness.proofs.Laws.{all-none, all-turn}
+use Rattle.laws.proofs.All.{all-none, all-turn}
 use Rattle.soundness.proofs.entries.agree.Statement.{statement}
 use Rattle.soundness.proofs.entries.agree.Tie as tie
 

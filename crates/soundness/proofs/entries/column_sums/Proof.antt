@@ -5,7 +5,7 @@ use mathlib.Core.Path.{_≡_, _∙_, ap}
 use lib.ListN.{length, length-replicate, getD-replicate}
 use Rattle.rules.specs.State.{at}
 use Rattle.laws.specs.Range.{sumTo}
-use Rattle.soundness.proofs.PairLaws.{sum-nothing, sum-turn, sum-fits}
+use Rattle.laws.proofs.Sum.{sum-nothing, sum-turn, sum-fits}
 use Rattle.soundness.proofs.entries.column_sums.Statement.{statement}
 use Rattle.soundness.proofs.entries.column_sums.Tie as tie
 

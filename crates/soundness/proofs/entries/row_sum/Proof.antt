@@ -4,7 +4,7 @@ use Prim.Native.Nat.{_+_, _*_, _-_, _≤_}
 use mathlib.Core.Path.{_≡_, _∙_, ap}
 use Rattle.rules.specs.State.{at}
 use Rattle.laws.specs.Range.{sumTo}
-use Rattle.soundness.proofs.PairLaws.{sum-nothing, sum-turn, sum-fits}
+use Rattle.laws.proofs.Sum.{sum-nothing, sum-turn, sum-fits}
 use Rattle.soundness.proofs.entries.row_sum.Statement.{statement}
 use Rattle.soundness.proofs.entries.row_sum.Tie as tie
 

@@ -5,7 +5,7 @@ use mathlib.Core.Path.{_≡_, _∙_}
 use lib.ListN.{length, length-set, length-replicate}
 use Rattle.rules.specs.State.{at}
 use Rattle.laws.specs.Range.{sumTo}
-use Rattle.soundness.proofs.Laws.{fill-turn}
+use Rattle.laws.proofs.Columns.{set-more}
 use Rattle.soundness.proofs.entries.row_sums.Statement.{statement}
 use Rattle.soundness.proofs.entries.row_sums.Tie as tie
 
@@ -34,7 +34,7 @@ loop-less : tie.Need-loop-less Inv-loop μ-loop
 loop-less c = omega arith
 
 loop-again : tie.Need-loop-again Inv-loop μ-loop
-loop-again c = (omega arith, length-set (c .before .before .loop .sums) (c .before .before .loop .j) _ ∙ c .before .before .loop .inv .1, fill-turn 0 _ (c .before .before .loop .sums) (c .before .before .loop .j) _ (omega arith) (c .row-sum .ensures) (c .before .before .loop .inv .2))
+loop-again c = (omega arith, length-set (c .before .before .loop .sums) (c .before .before .loop .j) _ ∙ c .before .before .loop .inv .1, set-more _ (c .before .before .loop .sums) (c .before .before .loop .j) _ 0 (omega arith) (c .before .before .loop .inv .2) (c .row-sum .ensures))
 
 returns : tie.Need-returns Inv-loop μ-loop
 returns c = (c .before .loop .inv .1, λ j l. c .before .loop .inv .2 j (omega arith))

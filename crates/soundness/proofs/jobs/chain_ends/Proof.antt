@@ -6,7 +6,7 @@ use mathlib.Core.Path.{_≡_, refl, sym, _∙_}
 use Rattle.rules.specs.State.{at}
 use lib.ListN.{List·getD-eq-default}
 use Rattle.laws.specs.Chain.{endsIn}
-use Rattle.soundness.proofs.Laws.{ends-stuck, ends-turn, ends-here}
+use Rattle.laws.proofs.Walk.{ends-stuck, ends-turn, ends-here}
 use Rattle.soundness.proofs.jobs.chain_ends.Statement.{statement}
 use Rattle.soundness.proofs.jobs.chain_ends.Tie as tie
 

@@ -9,14 +9,14 @@ use lib.ListN.{length, getD}
 use lib.Dec.{leb}
 use borrow.Author.Tests.{not-true, not-false}
 use Rattle.laws.specs.Range.{allTo}
-use Rattle.laws.proofs.All.{all-false-of}
+use Rattle.laws.proofs.All.{all-false-of, all-none, all-more}
 use Rattle.rules.specs.State.{at}
 use Rattle.rules.specs.State.{zeroSettings}
 use Rattle.rules.specs.Sound.{implies}
 use Rattle.soundness.specs.Columns.{jobTest}
 use lib.ListN.{List·getD-eq-default}
 use Rattle.rules.specs.declared.Settings.{Settings}
-use Rattle.soundness.proofs.Laws.{all-none, all-more, length-of-map}
+use Rattle.soundness.proofs.Shapes.{length-of-map}
 use Rattle.soundness.proofs.JobLaws.{job-tested, asked-false, asked-not, asked-true}
 use Rattle.soundness.proofs.jobs.jobs_right.Statement.{statement}
 use Rattle.soundness.proofs.jobs.jobs_right.Tie as tie

@@ -5,7 +5,7 @@ use mathlib.Core.Path.{_≡_, refl, _∙_, ap}
 use mathlib.Core.Bool.{false}
 use lib.ListN.{getD}
 use Rattle.laws.specs.Range.{anyTo}
-use Rattle.soundness.proofs.Laws.{any-nothing, any-turn}
+use Rattle.laws.proofs.All.{any-nothing, any-turn}
 use Rattle.soundness.proofs.queues.any.Statement.{statement}
 use Rattle.soundness.proofs.queues.any.Tie as tie
 

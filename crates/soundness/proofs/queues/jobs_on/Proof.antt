@@ -5,9 +5,9 @@ use mathlib.Core.Path.{_≡_, refl, _∙_}
 use mathlib.Core.Bool.{false, _&&_}
 use lib.ListN.{length, getD, length-set}
 use lib.Dec.{eqb}
+use Rattle.laws.proofs.Columns.{set-more}
 use Rattle.rules.specs.State.{at}
 use lib.ListN.{length-replicate}
-use Rattle.soundness.proofs.Laws.{fill-turn}
 use Rattle.soundness.proofs.queues.jobs_on.Statement.{statement}
 use Rattle.soundness.proofs.queues.jobs_on.Tie as tie
 
@@ -36,7 +36,7 @@ loop-less : tie.Need-loop-less Inv-loop μ-loop
 loop-less c = omega arith
 
 loop-again : tie.Need-loop-again Inv-loop μ-loop
-loop-again c = (omega arith, length-set (c .before .before .before .loop .on) (c .before .before .before .loop .j) _ ∙ c .before .before .before .loop .inv .1, fill-turn false _ (c .before .before .before .loop .on) (c .before .before .before .loop .j) _ (omega arith) refl (c .before .before .before .loop .inv .2))
+loop-again c = (omega arith, length-set (c .before .before .before .loop .on) (c .before .before .before .loop .j) _ ∙ c .before .before .before .loop .inv .1, set-more _ (c .before .before .before .loop .on) (c .before .before .before .loop .j) _ false (omega arith) (c .before .before .before .loop .inv .2) refl)
 
 returns : tie.Need-returns Inv-loop μ-loop
 returns c = λ j l. c .before .loop .inv .2 j (omega arith)

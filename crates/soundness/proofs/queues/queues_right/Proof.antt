@@ -7,10 +7,10 @@ use mathlib.Core.Bool.{true}
 use lib.ListN.{length}
 use borrow.Author.Tests.{not-true, not-false}
 use Rattle.laws.specs.Range.{allTo}
-use Rattle.laws.proofs.All.{all-false-of}
+use Rattle.laws.proofs.All.{all-false-of, all-none, all-more}
 use Rattle.rules.specs.State.{at}
 use Rattle.soundness.specs.Columns.{queueTest}
-use Rattle.soundness.proofs.Laws.{all-none, all-more, length-of-map}
+use Rattle.soundness.proofs.Shapes.{length-of-map}
 use Rattle.soundness.proofs.ListLaws.{queue-tested}
 use Rattle.soundness.proofs.queues.queues_right.Statement.{statement}
 use Rattle.soundness.proofs.queues.queues_right.Tie as tie

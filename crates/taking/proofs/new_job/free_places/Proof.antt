@@ -11,12 +11,11 @@ use borrow.Author.Tests.{eq-eqb, ne-eqb}
 use Rattle.laws.specs.Range.{countTo, chosenTo}
 use Rattle.laws.specs.Sequence.{padded}
 use Rattle.laws.proofs.Count.{count-hit, count-miss, count-le-bound}
-use Rattle.laws.proofs.First.{length-chosen}
+use Rattle.laws.proofs.First.{length-chosen, chosen-hit, chosen-miss, chosen-prefix}
 use Rattle.laws.proofs.Sequence.{getD-padded}
-use Rattle.lists.proofs.Building.{put-at}
+use Rattle.laws.proofs.Building.{put-at}
 use Rattle.rules.specs.State.{at}
 use Rattle.taking.specs.Columns.{freeIn}
-use Rattle.taking.proofs.Passes.{chosen-more, chosen-skip, chosen-prefix}
 use Rattle.taking.proofs.new_job.free_places.Statement.{statement}
 use Rattle.taking.proofs.new_job.free_places.Tie as tie
 
@@ -70,13 +69,13 @@ loop-again c =
     ⊎-elim
     (λ w.
     let t : f (c .before .before .before .loop .e) ≡ true = eq-eqb _ _ (w .0 .taken) in (
-      w .1 ∙ put-at 256 (chosenTo f (c .before .before .before .loop .e)) (c .before .before .before .loop .e) (c .before .before .before .loop .inv .0) (c .before .before .before .loop .inv .1 ∙ sym (length-chosen f (c .before .before .before .loop .e))) (omega arith) ∙ ap (padded 256) (sym (chosen-more f (c .before .before .before .loop .e) t)),
+      w .1 ∙ put-at 256 (chosenTo f (c .before .before .before .loop .e)) (c .before .before .before .loop .e) (c .before .before .before .loop .inv .0) (c .before .before .before .loop .inv .1 ∙ sym (length-chosen f (c .before .before .before .loop .e))) (omega arith) ∙ ap (padded 256) (sym (chosen-hit f (c .before .before .before .loop .e) t)),
       w .2 ∙ ap (λ x. x + 1) (c .before .before .before .loop .inv .1) ∙ sym (count-hit f (c .before .before .before .loop .e) t),
       omega (arith, w .2),
     ))
     (λ w.
     let t : f (c .before .before .before .loop .e) ≡ false = ne-eqb _ _ (w .0 .left) in (
-      w .1 ∙ c .before .before .before .loop .inv .0 ∙ ap (padded 256) (sym (chosen-skip f (c .before .before .before .loop .e) t)),
+      w .1 ∙ c .before .before .before .loop .inv .0 ∙ ap (padded 256) (sym (chosen-miss f (c .before .before .before .loop .e) t)),
       w .2 ∙ c .before .before .before .loop .inv .1 ∙ sym (count-miss f (c .before .before .before .loop .e) t),
       omega (arith, w .2),
     ))
@@ -87,7 +86,7 @@ returns : tie.Need-returns Inv-loop μ-loop
 returns c =
     λ i l.
     let f = (freeIn (c .before .before .args .kind .now)) in
-    ap (λ a. at a i) (c .before .loop .inv .0) ∙ getD-padded 256 (chosenTo f (c .before .loop .e)) i ∙ chosen-prefix f (c .before .loop .e) 512 i (c .before .loop .inv .2) (omega arith)
+    ap (λ a. at a i) (c .before .loop .inv .0) ∙ getD-padded 256 (chosenTo f (c .before .loop .e)) i ∙ chosen-prefix f 0 (c .before .loop .e) 512 i (c .before .loop .inv .2) (omega arith)
 
 pub free-places-spec : {M : Type 1} → statement M
 free-places-spec =

@@ -9,9 +9,8 @@ use lib.Dec.{ltb}
 use borrow.Author.Tests.{lt-ltb, le-ltb, eq-eqb, ne-eqb}
 use borrow.Author.Count.{below-more}
 use Rattle.laws.proofs.Choice.{and-both, and-left-false, and-right-false, false-of, true-not-false}
-use Rattle.laws.proofs.Sequence.{every-getD, every-from-getD}
+use Rattle.laws.proofs.Sequence.{every-getD, every-from-getD, every-false-of}
 use Rattle.rules.specs.State.{at}
-use Rattle.taking.proofs.Passes.{every-fails}
 use Rattle.taking.specs.Columns.{onTransport}
 use Rattle.taking.proofs.refusals.all_on.Statement.{statement}
 use Rattle.taking.proofs.refusals.all_on.Tie as tie
@@ -33,7 +32,7 @@ shared-slice-read-d c = omega arith
 
 returns : tie.Need-returns Inv-loop μ-loop
 unfolding onTransport
-returns c = every-fails (onTransport (c .before .before .before .before .args .home .now) (c .before .before .before .before .args .count) (c .before .before .before .before .args .t)) (c .before .before .before .before .args .dests .now) (c .before .before .before .loop .i) (c .before .before .loop-test .taken) (and-left-false _ (le-ltb _ _ (c .if1 .taken)))
+returns c = sym (every-false-of (onTransport (c .before .before .before .before .args .home .now) (c .before .before .before .before .args .count) (c .before .before .before .before .args .t)) (c .before .before .before .before .args .dests .now) (c .before .before .before .loop .i) 0 (c .before .before .loop-test .taken) (and-left-false _ (le-ltb _ _ (c .if1 .taken))))
 
 mul-if2 : tie.Need-mul-if2 Inv-loop μ-loop
 mul-if2 c = omega arith
@@ -43,7 +42,7 @@ element-copy-out-if2 c = omega arith
 
 returns-2 : tie.Need-returns-2 Inv-loop μ-loop
 unfolding onTransport
-returns-2 c = every-fails (onTransport (c .before .before .before .before .before .before .args .home .now) (c .before .before .before .before .before .before .args .count) (c .before .before .before .before .before .before .args .t)) (c .before .before .before .before .before .before .args .dests .now) (c .before .before .before .before .before .loop .i) (c .before .before .before .before .loop-test .taken) (and-right-false (ltb (at (c .before .before .before .before .before .before .args .dests .now) (c .before .before .before .before .before .loop .i)) (c .before .before .before .before .before .before .args .count)) (ne-eqb _ _ (c .if2 .taken)))
+returns-2 c = sym (every-false-of (onTransport (c .before .before .before .before .before .before .args .home .now) (c .before .before .before .before .before .before .args .count) (c .before .before .before .before .before .before .args .t)) (c .before .before .before .before .before .before .args .dests .now) (c .before .before .before .before .before .loop .i) 0 (c .before .before .before .before .loop-test .taken) (and-right-false (ltb (at (c .before .before .before .before .before .before .args .dests .now) (c .before .before .before .before .before .loop .i)) (c .before .before .before .before .before .before .args .count)) (ne-eqb _ _ (c .if2 .taken))))
 
 add-i : tie.Need-add-i Inv-loop μ-loop
 add-i c = omega arith

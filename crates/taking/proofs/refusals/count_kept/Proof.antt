@@ -8,8 +8,9 @@ use native.Mathlib.Omega.{arith}
 use lib.ListN.{length, getD, take}
 use lib.Seq.{take-length}
 use Rattle.laws.specs.Sequence.{keep}
+use Rattle.laws.proofs.Building.{keep-more, keep-fewer, length-keep-take}
+use Rattle.laws.proofs.Front.{length-snoc}
 use Rattle.rules.specs.State.{at}
-use Rattle.lists.proofs.Building.{keep-more, keep-fewer, length-keep-take, length-snoc}
 use Rattle.taking.specs.Columns.{keptBy}
 use Rattle.taking.proofs.refusals.count_kept.Statement.{statement}
 use Rattle.taking.proofs.refusals.count_kept.Tie as tie

@@ -6,7 +6,7 @@ use mathlib.Core.Path.{_≡_, refl, sym, ap, _∙_}
 use native.Mathlib.Omega.{arith}
 use lib.ListN.{length, drop, set}
 use Rattle.laws.specs.Range.{tableTo}
-use Rattle.laws.proofs.Table.{table-drop-step, table-full}
+use Rattle.laws.proofs.Fill.{table-drop-step}
 use Rattle.taking.specs.Columns.{deadOn}
 use Rattle.taking.proofs.refusals.dead_table.Statement.{statement}
 use Rattle.taking.proofs.refusals.dead_table.Tie as tie

@@ -1,23 +1,18 @@
--- A list of job numbers that a pass builds: what it wrote, and zeros behind that.
-use Prim.Native.Nat.{ℕ, zero, suc, _+_, _-_, _≤_, _<_}
+-- A list that a pass builds in an array: what it wrote, and zeros behind that.
+use Prim.Native.Nat.{ℕ, _+_, _≤_, _<_}
 use mathlib.Core.Bool.{Bool, true, false}
-use mathlib.Core.Path.{_≡_, refl, sym, ap, _∙_}
+use mathlib.Core.Path.{_≡_, sym, ap, _∙_}
 use mathlib.Core.List.{List, [], _∷_, _++_}
 use native.Mathlib.Numerals.{add-one}
 use native.Mathlib.Omega.{arith}
-use lib.ListN.{length, getD, take, set, length-append}
+use lib.ListN.{length, getD, take, set}
 use lib.Seq.{take-suc, length-take-le}
-use Rattle.laws.specs.Choice.{if_then_else_}
 use Rattle.laws.specs.Sequence.{keep, padded}
 use Rattle.laws.proofs.Choice.{if-true, if-false}
+use Rattle.laws.proofs.Front.{length-snoc}
 use Rattle.laws.proofs.Sequence.{set-padded-end}
 use Rattle.laws.proofs.Keep.{length-keep-le}
 use Rattle.laws.proofs.Index.{keep-take}
-use Rattle.rules.specs.declared.JobList.{JobList}
-use Rattle.rules.specs.State.{listed}
-
-pub length-snoc : (l : List ℕ) (x : ℕ) → length (l ++ (x ∷ [])) ≡ length l + 1
-length-snoc l x = length-append l (x ∷ [])
 
 -- one more is written behind what was
 module _ (n : ℕ) (l : List ℕ) {a : List ℕ} {m : ℕ} (x : ℕ) where
@@ -68,6 +63,3 @@ module _ (p : ℕ → Bool) (l : List ℕ) (i : ℕ) where
     keep-skip e f t wrote more =
         let r = keep-fewer h t in
         (wrote ∙ e ∙ ap (padded size) (sym r), more ∙ f ∙ ap length (sym r))
-
-pub listed-is : (l a : List ℕ) (k : ℕ) → a ≡ padded 32 l → k ≡ length l → _≡_ {A = JobList} (record { jobs = a; count = k }) (listed l)
-listed-is l a k e h = rw (e, h)
