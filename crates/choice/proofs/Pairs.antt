@@ -1,13 +1,13 @@
 -- The table of pairs, which the soundness test fills, finds the eligible entries of a sound state.
 use Prim.Native.Nat.{ℕ, _+_, _*_, _≤_, _<_}
-use mathlib.Core.Bool.{Bool, true, false, _&&_, and-true}
+use mathlib.Core.Bool.{Bool, true, false, _&&_, and-true, and-assoc}
 use mathlib.Core.Path.{_≡_, sym, _∙_, ap, subst}
 use mathlib.Core.List.{List}
 use native.Mathlib.Decide.{decLt}
 use native.Mathlib.Omega.{arith}
 use lib.Dec.{eqb, ltb}
 use lib.ListN.{getD, List·getD-eq-default}
-use borrow.Author.Tests.{lt-ltb, le-ltb, eqb-true, eq-eqb}
+use borrow.Author.Tests.{lt-ltb, le-ltb, eqb-true}
 use Rattle.laws.specs.Range.{anyTo, countTo, firstTo}
 use Rattle.laws.proofs.Choice.{case-bool, bool-same, true-not-false, false-of, and-both, and-left, and-right, and-left-false, and-right-false, eqb-self}
 use Rattle.laws.proofs.Count.{count-any}
@@ -21,6 +21,7 @@ use Rattle.rules.specs.Picking.{hasRoom, hasAgent, eligible, eligibleOf, eligib
 use Rattle.rules.proofs.Shape.{Shaped}
 use Rattle.rules.proofs.EntryFacts.{present-below, waiting-used, eligible-of-eligible, eligible-of-job, eligible-sound}
 use Rattle.soundness.specs.Columns.{tallyTo, Paired}
+use Rattle.soundness.proofs.PairLaws.{pair-test}
 use Rattle.choice.specs.Columns.{isOpen, waitsIn, openPair, openTo, readyIn, waitsFor}
 use Rattle.choice.specs.Facts.{Reads, openPlace}
 
@@ -57,16 +58,13 @@ module _ (w : State) (shape : Shaped w) (h : Sound w) (room : List Bool) (rooms 
     of-pair : (j d e : ℕ) → d < 32 → e < 512 → (isWaiting w e && eqb (32 * jobOf w e + destinationOf w e) (32 * j + d)) ≡ waitsFor (w .entries .kind) (w .entries .job) (w .entries .destination) j d e
     unfolding waitsFor
     of-pair j d e b l =
-        bool-same
+        case-bool (isWaiting w e)
         (λ t.
-        let wait = and-left (isWaiting w e) (eqb (32 * jobOf w e + destinationOf w e) (32 * j + d)) t in
-        let same = eqb-true (32 * jobOf w e + destinationOf w e) (32 * j + d) (and-right (isWaiting w e) (eqb (32 * jobOf w e + destinationOf w e) (32 * j + d)) t) in
-        and-both (and-both wait (eq-eqb (jobOf w e) j (omega (arith, same, to-below e l wait)))) (eq-eqb (destinationOf w e) d (omega (arith, same, to-below e l wait))))
-        (λ t.
-        let own = and-left (isWaiting w e && eqb (jobOf w e) j) (eqb (destinationOf w e) d) t in
-        and-both (and-left (isWaiting w e) (eqb (jobOf w e) j) own)
-        (eq-eqb (32 * jobOf w e + destinationOf w e) (32 * j + d)
-        (omega (arith, eqb-true (jobOf w e) j (and-right (isWaiting w e) (eqb (jobOf w e) j) own), eqb-true (destinationOf w e) d (and-right (isWaiting w e && eqb (jobOf w e) j) (eqb (destinationOf w e) d) t)))))
+        ap (λ c. isWaiting w e && c) (pair-test (jobOf w e) (destinationOf w e) j d (to-below e l t) b)
+        ∙ sym (and-assoc (isWaiting w e) (eqb (jobOf w e) j) (eqb (destinationOf w e) d)))
+        (λ f.
+        and-left-false (eqb (32 * jobOf w e + destinationOf w e) (32 * j + d)) f
+        ∙ sym (and-left-false (eqb (destinationOf w e) d) (and-left-false (eqb (jobOf w e) j) f)))
 
     some-waits : (j d : ℕ) → j < 32 → d < 32 → ltb 0 (at pairs (32 * j + d)) ≡ anyTo (waitsFor (w .entries .kind) (w .entries .job) (w .entries .destination) j d) 512
     unfolding tallyTo
