@@ -20,7 +20,7 @@ use Rattle.rules.specs.State.{at, settingsOf, listOf, isPresent}
 use Rattle.rules.specs.Picking.{finds, hasEligible, nextTransport, currentJob, passedOver, nextPlace, nextEntry}
 use Rattle.rules.specs.Preemption.{preemptorOf}
 use Rattle.rules.proofs.Shape.{Shaped}
-use Rattle.rules.proofs.Soundness.{within-facts}
+use Rattle.rules.proofs.RangeFacts.{within-facts}
 use Rattle.rules.proofs.Picked.{Current}
 use Rattle.rules.proofs.Preemptor.{preemptor-found}
 use Rattle.choice.specs.declared.Choice.{Choice}

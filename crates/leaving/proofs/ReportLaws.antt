@@ -35,7 +35,8 @@ use Rattle.rules.specs.Calls.{Reply, answers, written, reportingReply}
 use Rattle.laws.specs.Choice.{if_then_else_}
 use Rattle.laws.specs.Chain.{firstAlong}
 use Rattle.rules.proofs.Shape.{Shaped}
-use Rattle.rules.proofs.Soundness.{in-range-of, sums-fit-of, sound-facts}
+use Rattle.rules.proofs.RangeFacts.{in-range-of, sums-fit-of}
+use Rattle.rules.proofs.Soundness.{sound-facts}
 use Rattle.rules.proofs.EntryTests.{busy-used}
 use Rattle.rules.proofs.EntryFacts.{present-below, waiting-used}
 use Rattle.rules.proofs.KeptWaking.{kept-woken}

@@ -9,7 +9,7 @@ use Rattle.laws.proofs.Choice.{and-left, or-cases}
 use Rattle.laws.proofs.Tests.{and-5}
 use Rattle.rules.specs.declared.Settings.{Settings}
 use Rattle.rules.specs.Setup.{within, slotsInRange, windowsInRange, settingsInRange}
-use Rattle.rules.proofs.Soundness.{within-facts}
+use Rattle.rules.proofs.RangeFacts.{within-facts}
 
 pub cost-range : (g : Settings) → settingsInRange g ≡ true → (g .cost ≡ 0) ⊎ (2 ≤ g .cost)
 unfolding settingsInRange slotsInRange

@@ -22,8 +22,7 @@ use Rattle.rules.specs.Setup.{setupInRange}
 use Rattle.rules.specs.Sound.{implies, belongs, entrySound, busyOn, busyTo, busySound, isJobOn, queueSound, arrivalsSound, jobSound, healthSound, sound}
 use Rattle.rules.specs.SoundFacts.{EntrySound, QueueSound, ArrivalsSound, LiveSound, DestinationSound, Sound}
 use Rattle.rules.proofs.JobFacts.{job-facts, job-of}
-use Rattle.rules.proofs.RangeFacts.{implies-at, implies-of}
-pub use Rattle.rules.proofs.RangeFacts.{within-facts, in-range-facts, in-range-of, home-below, sums-fit-facts, sums-fit-of}
+use Rattle.rules.proofs.RangeFacts.{implies-at, implies-of, in-range-facts, in-range-of, sums-fit-facts, sums-fit-of}
 
 module _ (s : State) where
   -- Entries.

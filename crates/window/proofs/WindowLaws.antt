@@ -15,7 +15,7 @@ use Rattle.rules.specs.Sizes.{U}
 use Rattle.rules.specs.Setup.{feedbackInRange, settingsInRange}
 use Rattle.rules.specs.Sound.{sumsFit}
 use Rattle.rules.specs.Windows.{feedback, cohortShare}
-use Rattle.rules.proofs.Soundness.{sums-fit-facts}
+use Rattle.rules.proofs.RangeFacts.{sums-fit-facts}
 use Rattle.rules.proofs.WindowLaws.{windows-range, feedback-le-U}
 use Rattle.window.specs.Fits.{healthFits}
 

@@ -1,7 +1,7 @@
 -- By the two cases of the health; only a live one has a window to divide by. Assumes nothing.
 use borrow.Author.Needs.{needs}
 use native.Mathlib.Omega.{arith}
-use Rattle.rules.proofs.Soundness.{sums-fit-facts}
+use Rattle.rules.proofs.RangeFacts.{sums-fit-facts}
 use Rattle.window.proofs.WindowLaws.{live-fits, cohorts-sum}
 use Rattle.window.proofs.Cases.{failure-live, failure-dead}
 use Rattle.window.proofs.after_failure.Statement.{statement}

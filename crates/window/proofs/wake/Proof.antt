@@ -6,7 +6,7 @@ use native.Mathlib.Omega.{arith}
 use lib.ListN.{length}
 use mathlib.Core.Logic.{⊎-elim}
 use Rattle.laws.specs.Range.{tableTo}
-use Rattle.rules.proofs.Soundness.{in-range-facts, home-below}
+use Rattle.rules.proofs.RangeFacts.{in-range-facts, home-below}
 use Rattle.window.proofs.WakingLaws.{wokenTo, woken-none, woken-kept, woken-written, woken-all}
 use Rattle.window.proofs.wake.Statement.{statement}
 use Rattle.window.proofs.wake.Tie as tie
