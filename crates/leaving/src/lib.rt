@@ -1,6 +1,5 @@
 // Document 01, "Windows", last part: the steps of a report of a sound state, and its refusal.
 use rules::Health;
-use rules::JobList;
 use rules::Outcome;
 use rules::Settings;
 ghost use mathlib.Core.Path.{_≡_};
@@ -11,7 +10,7 @@ ghost use lib.ListN.{length, getD, set};
 ghost use lib.Dec.{eqb};
 ghost use Rattle.laws.specs.Range.{anyTo, tableTo};
 ghost use Rattle.rules.specs.declared.State.{State};
-ghost use Rattle.rules.specs.State.{at, isLive, zeroList};
+ghost use Rattle.rules.specs.State.{at, isLive};
 ghost use Rattle.rules.specs.Setup.{settingsInRange};
 ghost use Rattle.rules.specs.Refusals.{reportRefusal};
 ghost use Rattle.window.specs.Fits.{healthFits};
@@ -189,14 +188,6 @@ fn wide_ticket(x: u32) -> u64
     ensures { λ r. ⌜ r ≡ x ⌝ }
 {
     x as u64
-}
-
-// A transport's list.
-pub fn queue_of(queues: [JobList; 4], t: usize) -> JobList
-    requires { ⌜ t < 4 ⌝ }
-    ensures { λ r. ⌜ r ≡ getD queues t zeroList ⌝ }
-{
-    queues[t]
 }
 
 // The refusal of a report to a sound state with this clock and these columns, 0 for none.

@@ -236,8 +236,7 @@ pub fn report(
     busy.destination[d] -= 1;
     next.busy = busy;
     let died = leaving::is_live(before) & !leaving::is_live(after);
-    let mut jobs = s.jobs;
-    let mut dropped = jobs.dropped;
+    let mut dropped = s.jobs.dropped;
     let count = leaving::put_off(
         &mut next.entries.kind,
         &job,
@@ -250,8 +249,8 @@ pub fn report(
     leaving::free(&mut next.entries.kind, e);
 
     // those without an entry leave
-    let present = jobs.present;
-    let parent = jobs.parent;
+    let present = s.jobs.present;
+    let parent = s.jobs.parent;
     let stays = leaving::staying(
         &next.entries.kind,
         &next.entries.job,
@@ -261,16 +260,15 @@ pub fn report(
         to,
         of,
     );
-    jobs.dropped = dropped;
     let adopted = leaving::adopt(&stays, &parent);
+    let mut jobs = next.jobs;
+    jobs.dropped = dropped;
     jobs.parent = adopted;
     jobs.present = stays;
     next.jobs = jobs;
-    let mut queues = s.queues;
-    let q = leaving::queue_of(queues, t);
+    let q = next.queues[t];
     let queue = lists::keep(q, &stays);
-    queues[t] = queue;
-    next.queues = queues;
+    next.queues[t] = queue;
     let a = s.arrivals;
     let arrivals = lists::keep(a, &stays);
     next.arrivals = arrivals;
