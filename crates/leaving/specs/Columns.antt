@@ -45,9 +45,13 @@ usedAt kind job j e = not (eqb (at kind e) 0) && eqb (at job e) j
 abbrev pub staysAt : List ℕ → List ℕ → List Bool → ℕ → ℕ → Bool
 staysAt kind job present n j = getD present j false && anyTo (usedAt kind job j) n
 
--- the jobs that lose an entry where destination d dies at a report of an entry of the job `of`: those with an entry that waited for d, and that one
-abbrev pub touched : List ℕ → ℕ → ℕ → ℕ → Bool
-touched pairs d of j = ltb 0 (at pairs (32 * j + d)) || eqb j of
+-- by the table of what waits, an entry of job j waits for x, which is not d
+abbrev pub elsewhere : List ℕ → ℕ → ℕ → ℕ → Bool
+elsewhere pairs d j x = ltb 0 (at pairs (32 * j + x)) && not (eqb x d)
+
+-- where destination d dies at a report of an entry of the job `of`: job j loses an entry, and none of its waits elsewhere
+abbrev pub emptied : List ℕ → ℕ → ℕ → ℕ → Bool
+emptied pairs d of j = (ltb 0 (at pairs (32 * j + d)) || eqb j of) && not (anyTo (elsewhere pairs d j) 32)
 
 -- each present job but these has a waiting or busy entry
 abbrev pub OthersStay : (ℕ → Bool) → List ℕ → List ℕ → List Bool → Type 0

@@ -15,7 +15,7 @@ ghost use Rattle.rules.specs.Setup.{settingsInRange};
 ghost use Rattle.rules.specs.Refusals.{reportRefusal};
 ghost use Rattle.window.specs.Fits.{healthFits};
 ghost use Rattle.charging.specs.Links.{leadsInside};
-ghost use Rattle.leaving.specs.Columns.{stepped, usedAt, staysAt, touched, OthersStay, nearestOf, adoptedAt, CanPutOff, PutOff, HasColumns};
+ghost use Rattle.leaving.specs.Columns.{stepped, usedAt, staysAt, elsewhere, emptied, OthersStay, nearestOf, adoptedAt, CanPutOff, PutOff, HasColumns};
 
 fn wide(x: u8) -> usize
     ensures { λ r. ⌜ r ≡ x ⌝ }
@@ -95,8 +95,32 @@ fn has_entry<'a>(kind: &'a [u8; 512], job: &'a [u8; 512], j: u8) -> bool
     any
 }
 
-// Which of the present jobs have one after entries that waited for destination d were put off, and an entry of the job `of` was freed. A job that had
-// none waiting for d, by the table of the soundness test, and is not that one has the entries that it had.
+// An entry of job j waits for a destination other than d, by the table of the soundness test.
+fn waits_elsewhere(pairs: &[u16; 1024], j: usize, d: usize) -> bool
+    requires { ⌜ j < 32 ⌝ }
+    ensures { λ r. ⌜ r ≡ anyTo (elsewhere (now (pairs .entry)) d j) 32 ⌝ }
+{
+    let mut any = false;
+    let mut x: usize = 0;
+    while x < 32 {
+        any = any | ((0 < pairs[32 * j + x]) & (x != d));
+        x += 1;
+    }
+    any
+}
+
+// Job j may be left without an entry where destination d dies at a report of an entry of the job `of`: it loses one, and none of its waits elsewhere.
+fn may_be_empty(pairs: &[u16; 1024], j: usize, d: usize, of: usize) -> bool
+    requires { ⌜ (j < 32) × (d < 32) ⌝ }
+    ensures { λ r. ⌜ r ≡ emptied (now (pairs .entry)) d of j ⌝ }
+{
+    if (0 < pairs[32 * j + d]) | (j == of) {
+        return !waits_elsewhere(pairs, j, d);
+    }
+    false
+}
+
+// Which of the present jobs stay where destination d died: only those that may be left without an entry are looked at.
 fn left_with_some<'a>(
     kind: &'a [u8; 512],
     job: &'a [u8; 512],
@@ -105,7 +129,7 @@ fn left_with_some<'a>(
     d: u8,
     of: u8,
 ) -> [bool; 32]
-    requires { ⌜ (d < 32) × OthersStay (touched (now pairs) d of) (now kind) (now job) present ⌝ }
+    requires { ⌜ (d < 32) × OthersStay (emptied (now pairs) d of) (now kind) (now job) present ⌝ }
     ensures { λ r. ⌜ r ≡ tableTo (staysAt (now (kind .entry)) (now (job .entry)) present 512) 32 ⌝ }
 {
     let to = d as usize;
@@ -113,7 +137,7 @@ fn left_with_some<'a>(
     let mut stays = present;
     let mut j: usize = 0;
     while j < 32 {
-        if (0 < pairs[32 * j + to]) | (j == own) {
+        if may_be_empty(pairs, j, to, own) {
             stays[j] = present[j] & has_entry(kind, job, j as u8);
         }
         j += 1;
@@ -132,7 +156,7 @@ pub fn staying<'a>(
     d: u8,
     of: u8,
 ) -> [bool; 32]
-    requires { ⌜ (d < 32) × (of < 32) × (died ≡ true → OthersStay (touched (now pairs) d of) (now kind) (now job) present)
+    requires { ⌜ (d < 32) × (of < 32) × (died ≡ true → OthersStay (emptied (now pairs) d of) (now kind) (now job) present)
         × (died ≡ false → OthersStay (λ j. eqb j of) (now kind) (now job) present) ⌝ }
     ensures { λ r. ⌜ r ≡ tableTo (staysAt (now (kind .entry)) (now (job .entry)) present 512) 32 ⌝ }
 {

@@ -4,37 +4,28 @@ use Prim.Native.Nat.{_≤_, _<_, _-_}
 use mathlib.Core.Bool.{false, _&&_}
 use mathlib.Core.List.{_++_}
 use mathlib.Core.Logic.{⊎-elim}
-use mathlib.Core.Path.{_≡_, ap, _∙_}
+use mathlib.Core.Path.{_≡_, sym, ap, _∙_}
 use native.Mathlib.Omega.{arith}
 use lib.ListN.{length, getD, drop}
 use Rattle.laws.specs.Range.{tableTo}
-use Rattle.leaving.specs.Columns.{staysAt, touched}
 use Rattle.laws.proofs.Fill.{fill-none, fill-more, fill-all}
+use Rattle.leaving.specs.Columns.{staysAt, emptied}
 use Rattle.leaving.proofs.Marks.{stay-kept}
 use Rattle.leaving.proofs.left_with_some.Statement.{statement}
 use Rattle.leaving.proofs.left_with_some.Tie as tie
 
 abbrev Inv-loop : tie.InvT-loop
 Inv-loop kind job pairs d of present to own stays₀ j₀ stays j =
-    (stays ≡ tableTo (staysAt kind job present 512) j ++ drop j present) × (j ≤ 32) × (length present ≡ 32) × (d < 32)
+    (stays ≡ tableTo (staysAt kind job present 512) j ++ drop j present) × (j ≤ 32) × (length present ≡ 32)
 
 abbrev μ-loop : tie.MeasureT-loop
 μ-loop kind job pairs d of present to own stays₀ j₀ stays j = 32 - j
 
 loop-holds : tie.Need-loop-holds Inv-loop μ-loop
-loop-holds c = (fill-none _ _, omega arith, search needs, c .pre .0)
+loop-holds c = (fill-none _ _, omega arith, search needs)
 
-mul-if1 : tie.Need-mul-if1 Inv-loop μ-loop
-mul-if1 c = omega arith
-
-add-if1 : tie.Need-add-if1 Inv-loop μ-loop
-add-if1 c = omega (arith, c .before .loop .inv .3)
-
-mul-if1-2 : tie.Need-mul-if1-2 Inv-loop μ-loop
-mul-if1-2 c = omega (arith, c .before .loop .inv .3)
-
-element-copy-out-if1 : tie.Need-element-copy-out-if1 Inv-loop μ-loop
-element-copy-out-if1 c = omega (arith, c .before .loop .inv .3)
+may-be-empty-requires : tie.Need-may-be-empty-requires Inv-loop μ-loop
+may-be-empty-requires c κs = (c .loop-test .taken, c .before .before .pre .0)
 
 array-read-stays : tie.Need-array-read-stays Inv-loop μ-loop
 array-read-stays c = omega arith
@@ -59,11 +50,10 @@ loop-again c =
     let l : c .before .before .before .loop .j < length (c .before .before .before .before .args .t4) = omega (arith, c .before .before .before .loop .inv .2) in (
       ⊎-elim
           (λ w. w .2 ∙ fill-more (staysAt (c .before .before .before .before .args .kind .now) (c .before .before .before .before .args .job .now) (c .before .before .before .before .args .t4) 512) (c .before .before .before .before .args .t4) (c .before .before .before .loop .j) l (c .before .before .before .loop .inv .0) (ap (λ b. getD (c .before .before .before .before .args .t4) (c .before .before .before .loop .j) false && b) (w .1 .ensures)))
-          (λ w. w .1 ∙ c .before .before .before .loop .inv .0 ∙ stay-kept (c .before .before .before .before .args .kind .now) (c .before .before .before .before .args .job .now) (c .before .before .before .before .args .t4) (touched (c .before .before .before .before .args .pairs .now) (c .before .before .before .before .args .d) (c .before .before .before .before .args .of)) (c .before .before .before .before .pre .1) (c .before .before .before .loop .j) (c .before .before .loop-test .taken) l (w .0 .left))
+          (λ w. w .1 ∙ c .before .before .before .loop .inv .0 ∙ stay-kept (c .before .before .before .before .args .kind .now) (c .before .before .before .before .args .job .now) (c .before .before .before .before .args .t4) (emptied (c .before .before .before .before .args .pairs .now) (c .before .before .before .before .args .d) (c .before .before .before .before .args .of)) (c .before .before .before .before .pre .1) (c .before .before .before .loop .j) (c .before .before .loop-test .taken) l (sym (c .before .may-be-empty .ensures) ∙ w .0 .left))
           (c .if1 .came),
       omega arith,
       c .before .before .before .loop .inv .2,
-      c .before .before .before .loop .inv .3,
     )
 
 returns : tie.Need-returns Inv-loop μ-loop
@@ -79,10 +69,7 @@ left-with-some-spec =
     Inv-loop
     μ-loop
     loop-holds
-    mul-if1
-    add-if1
-    mul-if1-2
-    element-copy-out-if1
+    may-be-empty-requires
     array-read-stays
     cast-has-entry
     has-entry-requires
