@@ -21,7 +21,8 @@ use Rattle.window.proofs.WakingLaws.{none-due}
 use Rattle.leaving.specs.Columns.{CanReport, HasColumns}
 use Rattle.soundness.proofs.Shapes.{shaped}
 use Rattle.handing.proofs.Laws.{same-list}
-use Rattle.leaving.proofs.ReportLaws.{ReportAsks, report-asks, step-asks, put-off-asks, others-live, others-stay, adopt-asks, report-is}
+use Rattle.leaving.proofs.ReportLaws.{ReportAsks, report-asks, step-asks, put-off-asks, adopt-asks, report-is}
+use Rattle.leaving.proofs.Stayers.{others-live, others-stay}
 use Rattle.scheduler.proofs.CallLaws.{report-unsound, report-refused, report-can, report-made, few}
 use Rattle.scheduler.proofs.report.Statement.{statement}
 use Rattle.scheduler.proofs.report.Tie as tie
@@ -188,8 +189,8 @@ staying-requires : tie.Need-staying-requires
 staying-requires c κs = (
   asks (c .before .before .before .before .before .before .before .before .before .before .before .before .before .before .before .before .before .before .before .before .before .before .before .before .before .before .before .before .before .before .before .before .before) .destination,
   asks (c .before .before .before .before .before .before .before .before .before .before .before .before .before .before .before .before .before .before .before .before .before .before .before .before .before .before .before .before .before .before .before .before .before) .job,
-  λ dies. others-stay _ _ _ _ (shape (c .before .before .before .before .before .before .before .before .before .before .before .before .before .before .before .before .before .before .before .before .before .before .before .before .before .before .before .before .before .before .before .before .before .before)) (can (c .before .before .before .before .before .before .before .before .before .before .before .before .before .before .before .before .before .before .before .before .before .before .before .before .before .before .before .before .before .before .before .before .before)) (c .before .before .before .before .before .before .before .before .before .before .put-off .ensures) (c .before .before .before .before .before .before .free .ensures) (c .before .before .before .before .before .before .before .before .before .before .before .before .before .before .before .before .before .before .before .before .before .before .before .before .before .before .before .before .before .before .before .before .before .before .before .before .before .before .before .sound-with .ensures .1 (not-false _ (c .before .before .before .before .before .before .before .before .before .before .before .before .before .before .before .before .before .before .before .before .before .before .before .before .before .before .before .before .before .before .before .before .before .before .before .before .before .before .if1 .left))),
-  λ lives. others-live _ _ _ _ (shape (c .before .before .before .before .before .before .before .before .before .before .before .before .before .before .before .before .before .before .before .before .before .before .before .before .before .before .before .before .before .before .before .before .before .before)) (can (c .before .before .before .before .before .before .before .before .before .before .before .before .before .before .before .before .before .before .before .before .before .before .before .before .before .before .before .before .before .before .before .before .before)) (c .before .before .before .before .before .before .before .before .before .before .put-off .ensures) (c .before .before .before .before .before .before .free .ensures) lives,
+  λ dies. others-stay _ _ _ _ (can (c .before .before .before .before .before .before .before .before .before .before .before .before .before .before .before .before .before .before .before .before .before .before .before .before .before .before .before .before .before .before .before .before .before)) (c .before .before .before .before .before .before .before .before .before .before .put-off .ensures) (c .before .before .before .before .before .before .free .ensures) (c .before .before .before .before .before .before .before .before .before .before .before .before .before .before .before .before .before .before .before .before .before .before .before .before .before .before .before .before .before .before .before .before .before .before .before .before .before .before .before .sound-with .ensures .1 (not-false _ (c .before .before .before .before .before .before .before .before .before .before .before .before .before .before .before .before .before .before .before .before .before .before .before .before .before .before .before .before .before .before .before .before .before .before .before .before .before .before .if1 .left))),
+  λ lives. others-live _ _ _ _ (can (c .before .before .before .before .before .before .before .before .before .before .before .before .before .before .before .before .before .before .before .before .before .before .before .before .before .before .before .before .before .before .before .before .before)) (c .before .before .before .before .before .before .before .before .before .before .put-off .ensures) (c .before .before .before .before .before .before .free .ensures) lives,
 )
 
 adopt-requires : tie.Need-adopt-requires
