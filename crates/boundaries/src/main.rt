@@ -10,17 +10,16 @@
 //                                             counted from 1
 //     keep                                    keeps the state
 //     back                                    goes back to the kept state
-//     set FIELD ..                            changes a field of the state (change.rt)
+//     set FIELD ..                            changes a field of the state (cases/src/change.rt)
 //     broken FIELD ..                         changes a field of a copy, and asks about its job 0
 //     range FIELD ..                          changes a field of the set-up, and sets up with it; the state stays
 //
 // Empty lines and lines that begin with '#' are written as they are.
-mod change;
-mod lent;
-mod reading;
-
 ghost use Prim.Native.Nat.{_≤_};
 ghost use lib.ListN.{length};
+use cases::change;
+use cases::lent;
+use cases::reading;
 use libc::STDIN_FILENO;
 use libc::STDOUT_FILENO;
 use lines::answer;

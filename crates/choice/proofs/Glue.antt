@@ -25,8 +25,9 @@ use Rattle.rules.proofs.Shape.{Shaped}
 use Rattle.rules.proofs.EntryFacts.{present-below, waiting-used, eligible-of-eligible, eligible-of-job, eligible-sound}
 use Rattle.rules.proofs.Turns.{steps-found}
 use Rattle.rules.proofs.Picked.{queue-job, TransportFound, transport-found, Current, current-found, next-found}
-use Rattle.choice.specs.Columns.{waitsIn, Adds}
-use Rattle.choice.specs.Facts.{Reads, frontOf, aheadOf, hasFront, frontSteps, Turned, openPlace, Placed}
+use Rattle.eligibility.specs.Eligibility.{waitsIn, Adds}
+use Rattle.eligibility.specs.Eligibility.{Reads, openPlace}
+use Rattle.turns.specs.Turns.{frontOf, aheadOf, hasFront, frontSteps, Turned, Placed}
 
 -- turns that ask the same
 pub steps-same : (p q : ℕ → Bool) (n start : ℕ) → ((k : ℕ) → k < n → p k ≡ q k) → stepsTo p n start ≡ stepsTo q n start

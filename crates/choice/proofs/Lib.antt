@@ -1,10 +1,2 @@
-pub mod Steps
-pub mod Rooms
-pub mod Lefts
-pub mod Credits
-pub mod Bests
-pub mod Fronts
-pub mod Preempts
-pub mod Pairs
 pub mod Glue
 pub mod Chosen

@@ -4,15 +4,10 @@ use Prim.Native.Nat.{ℕ, zero, suc}
 use mathlib.Core.Bool.{true, false}
 use Rattle.laws.specs.Choice.{if_then_else_}
 use Rattle.rules.specs.declared.State.{State}
-use Rattle.rules.specs.State.{waitingOf}
 use Rattle.rules.specs.Picking.{finds, nextTransport, currentJob, passedOver, nextPlace, nextEntry}
 use Rattle.rules.specs.Preemption.{preemptorOf}
+use Rattle.preemption.specs.Preempting.{waitingAt}
 use Rattle.choice.specs.declared.Choice.{Choice}
-
--- the waiting entries of the job that a link leads to; 0 for none
-unfoldable pub waitingAt : State → ℕ → ℕ
-waitingAt s zero = 0
-waitingAt s (suc x) = waitingOf s x
 
 -- the job picked from: the one that preempts, or the current one
 unfoldable pub pickedFrom : ℕ → ℕ → ℕ

@@ -1,12 +1,8 @@
 // What a pick reads, computed fast: document 01, "Picking and preemption". Nothing is written here; the pick writes.
-mod entries;
-mod preemption;
-mod turns;
-
-use entries::first_waiting;
-use entries::left_waiting;
-use entries::open_table;
-use entries::wide;
+use columns::wide;
+use eligibility::first_waiting;
+use eligibility::left_waiting;
+use eligibility::open_table;
 use preemption::find_preemptor;
 use rules::State;
 use turns::next_place;
@@ -15,7 +11,7 @@ ghost use mathlib.Core.Path.{_≡_};
 ghost use Prim.Native.Nat.{_≤_};
 ghost use Rattle.rules.specs.Sizes.{lastSecond};
 ghost use Rattle.rules.specs.SoundFacts.{Sound};
-ghost use Rattle.soundness.specs.Columns.{Paired};
+ghost use Rattle.counting.specs.Counting.{Paired};
 ghost use Rattle.choice.specs.Choosing.{choiceOf, pickedFrom};
 
 // What a pick reads. All zeros where nothing is found.

@@ -11,7 +11,7 @@ use Rattle.laws.specs.Range.{anyTo, tableTo}
 use Rattle.laws.proofs.Choice.{and-both, and-left-false, case-bool}
 use Rattle.laws.proofs.Table.{table-is, table-write}
 use Rattle.laws.proofs.Fill.{table-keep}
-use Rattle.leaving.specs.Columns.{usedAt, staysAt, OthersStay}
+use Rattle.leaving.specs.Leaving.{usedAt, staysAt, OthersStay}
 
 module _ (kind job : List ℕ) (present : List Bool) (these : ℕ → Bool) (others : OthersStay these kind job present) where
   stay-other : (j : ℕ) → j < 32 → these j ≡ false → staysAt kind job present 512 j ≡ getD present j false

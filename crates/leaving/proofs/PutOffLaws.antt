@@ -20,7 +20,7 @@ use Rattle.laws.proofs.Fill.{getD-fill, table-drop, table-full, table-keep}
 use Rattle.rules.specs.Sizes.{maxJobs, maxEntries, maxLength}
 use Rattle.rules.specs.State.{at}
 use Rattle.rules.specs.Calls.{written}
-use Rattle.leaving.specs.Columns.{putOffAt, keptAt, droppedAt, CanPutOff, PutOff}
+use Rattle.leaving.specs.Leaving.{putOffAt, keptAt, droppedAt, CanPutOff, PutOff}
 
 -- up to entry i, of a destination that died
 pub record PutTo (d : ℕ) (kind job destination dropped list : List ℕ) (i : ℕ) (kind' dropped' list' : List ℕ) (n : ℕ) : Type 0 where

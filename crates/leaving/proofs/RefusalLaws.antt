@@ -12,7 +12,7 @@ use Rattle.rules.specs.declared.State.{State}
 use Rattle.rules.specs.Sizes.{maxEntries, lastSecond}
 use Rattle.rules.specs.State.{at}
 use Rattle.rules.specs.Refusals.{badClock, isBusyWith, reportRefusal}
-use Rattle.leaving.specs.Columns.{HasColumns}
+use Rattle.leaving.specs.Leaving.{HasColumns}
 
 module _ (s : State) (clock e ticket : ℕ) {last : ℕ} {kind tickets : List ℕ} (of : HasColumns s last kind tickets) where
   clock-reads : badClock s clock ≡ (ltb clock last || ltb lastSecond clock)

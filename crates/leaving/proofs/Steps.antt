@@ -10,7 +10,7 @@ use Rattle.rules.specs.declared.Outcome.{Outcome}
 use Rattle.rules.specs.declared.Outcome.the-variants.{Success, Failure}
 use Rattle.rules.specs.State.{isLive}
 use Rattle.rules.specs.Windows.{afterSuccess, afterFailure}
-use Rattle.leaving.specs.Columns.{stepped}
+use Rattle.leaving.specs.Leaving.{stepped}
 
 pub live-is : (h : Health) (u : Sums) → h ≡ Live u → true ≡ isLive h
 unfolding isLive

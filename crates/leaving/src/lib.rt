@@ -1,4 +1,6 @@
 // Document 01, "Windows", last part: the steps of a report of a sound state, and its refusal.
+use columns::wide;
+use columns::wide32;
 use rules::Health;
 use rules::Outcome;
 use rules::Settings;
@@ -15,13 +17,7 @@ ghost use Rattle.rules.specs.Setup.{settingsInRange};
 ghost use Rattle.rules.specs.Refusals.{reportRefusal};
 ghost use Rattle.window.specs.Fits.{healthFits};
 ghost use Rattle.charging.specs.Links.{leadsInside};
-ghost use Rattle.leaving.specs.Columns.{stepped, usedAt, staysAt, elsewhere, emptied, OthersStay, nearestOf, adoptedAt, CanPutOff, PutOff, HasColumns};
-
-fn wide(x: u8) -> usize
-    ensures { λ r. ⌜ r ≡ x ⌝ }
-{
-    x as usize
-}
+ghost use Rattle.leaving.specs.Leaving.{stepped, usedAt, staysAt, elsewhere, emptied, OthersStay, nearestOf, adoptedAt, CanPutOff, PutOff, HasColumns};
 
 // The destination after this outcome; busy still counts this delivery.
 pub fn step(g: Settings, busy: u64, now: u64, h: Health, outcome: Outcome) -> Health
@@ -72,14 +68,6 @@ pub fn put_off<'a>(
         i += 1;
     }
     m as u16
-}
-
-// The reported entry is free.
-pub fn free(kind: &mut [u8; 512], e: usize)
-    requires { ⌜ e < 512 ⌝ }
-    ensures { λ _. ⌜ now (kind .exit) ≡ set (now (kind .entry)) e 0 ⌝ }
-{
-    kind[e] = 0;
 }
 
 // Whether job j has a waiting or busy entry.
@@ -208,12 +196,6 @@ pub fn adopt(stays: &[bool; 32], parent: &[u8; 32]) -> [u8; 32]
     next
 }
 
-fn wide_ticket(x: u32) -> u64
-    ensures { λ r. ⌜ r ≡ x ⌝ }
-{
-    x as u64
-}
-
 // The refusal of a report to a sound state with this clock and these columns, 0 for none.
 pub fn refusal<'a>(
     last: u32,
@@ -236,7 +218,7 @@ pub fn refusal<'a>(
     if kind[e] != 2 {
         return 9; // it is not busy
     }
-    let issued = wide_ticket(tickets[e]);
+    let issued = wide32(tickets[e]);
     if issued != ticket {
         return 9; // it is busy with another
     }

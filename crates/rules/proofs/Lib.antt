@@ -16,6 +16,7 @@ pub mod RangeFacts
 pub mod JobFacts
 pub mod Soundness
 pub mod Turns
+pub mod Edges
 pub mod Sim
 pub mod SimFresh
 pub mod SimRows
@@ -42,6 +43,7 @@ pub mod KeptReporting
 pub mod ReportedFacts
 pub mod KeptFresh
 pub mod Accepted
+pub mod Replies
 pub mod SimTaking
 pub mod SimReporting
 pub mod CallCases
@@ -49,4 +51,3 @@ pub mod Reached
 pub mod Demand3
 pub mod Books
 pub mod NothingLost
-pub mod Examples

@@ -21,7 +21,7 @@ use Rattle.rules.specs.Sizes.{maxJobs}
 use Rattle.rules.specs.State.{at, settingsOf, listOf, queueOf, isPresent, hasPreempted, waitingOf}
 use Rattle.rules.specs.SoundFacts.{Sound}
 use Rattle.rules.specs.Picking.{hasEligible}
-use Rattle.rules.specs.Preemption.{credit, hasCredit, owned, creditOf, affordable, canPayFor, isCandidate, bestCandidate, paysFor, paysForBest, isPreempted, preemptorOf}
+use Rattle.rules.specs.Preemption.{credit, hasCredit, owned, creditOf, affordable, canPayFor, isCandidate, bestCandidate, paysFor, paysForBest, longEnough, isPreempted, preemptorOf}
 use Rattle.rules.proofs.Shape.{Shaped}
 use Rattle.rules.proofs.KeptRanges.{cost-range}
 use Rattle.rules.proofs.EntryFacts.{has-eligible-waits}
@@ -81,10 +81,10 @@ preemptor-is w now t y x e =
 
 preempted-facts : (w : State) (now t y : ℕ) → isPreempted w now t y ≡ true
     → (settingsOf w t .cost ≢ 0) × (hasCredit (creditOf w t y) ≡ true) × (settingsOf w t .minimum * settingsOf w t .cost ≤ at (w .jobs .n) y) × (paysForBest w t y (bestCandidate w now t y) ≡ true)
-unfolding isPreempted
+unfolding isPreempted longEnough
 preempted-facts w now t y h =
     let c = settingsOf w t .cost in
-    let r = and-4 (not (eqb c 0)) (hasCredit (creditOf w t y)) (leb (settingsOf w t .minimum * c) (at (w .jobs .n) y)) (paysForBest w t y (bestCandidate w now t y)) h in
+    let r = and-4 (not (eqb c 0)) (hasCredit (creditOf w t y)) (longEnough (settingsOf w t) (at (w .jobs .n) y)) (paysForBest w t y (bestCandidate w now t y)) h in
     (eqb-false c 0 (not-true (eqb c 0) (r .0)), r .1, leb-true (settingsOf w t .minimum * c) (at (w .jobs .n) y) (r .2), r .3)
 
 -- "100·(a/c rounded down + L) ≥ m·(100-d)", for the one that preempts

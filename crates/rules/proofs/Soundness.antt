@@ -1,5 +1,5 @@
 -- The test `sound` and the facts `Sound` say the same.
-use Prim.Native.Nat.{ℕ, _<_}
+use Prim.Native.Nat.{ℕ, _≤_, _<_}
 use mathlib.Core.Path.{_≡_, refl, sym, _∙_, ap}
 use mathlib.Core.Logic.{⊎-elim}
 use mathlib.Core.Bool.{Bool, true, false, _&&_, _||_}
@@ -16,7 +16,7 @@ use Rattle.rules.specs.declared.Sums.{Sums}
 use Rattle.rules.specs.declared.Health.{Health}
 use Rattle.rules.specs.declared.Health.the-variants.{Live, Dead}
 use Rattle.rules.specs.declared.State.{State}
-use Rattle.rules.specs.Sizes.{maxJobs, maxEntries}
+use Rattle.rules.specs.Sizes.{maxDestinations, maxJobs, maxEntries}
 use Rattle.rules.specs.State.{at, settingsFor, transportOf, healthOf, zeroList, listOf, queueOf, isFree, isWaiting, isBusy, jobOf, destinationOf, isPresent}
 use Rattle.rules.specs.Setup.{setupInRange}
 use Rattle.rules.specs.Sound.{implies, belongs, entrySound, busyOn, busyTo, busySound, isJobOn, queueSound, arrivalsSound, jobSound, healthSound, sound}
@@ -195,3 +195,7 @@ module _ (s : State) where
       (all-from rightJob maxJobs λ j l. implies-of (isPresent s j) λ k. job-of s j (r .jobs j l k)))
       (all-from rightHealth (s .setup .destinations) λ d l. destination-of d (healthOf s d) refl (r .destinations d l)))
       (le-leb (s .turn) (s .setup .transports) (r .turn))
+
+-- a sound state's destinations are few
+pub few-destinations : (s : State) → sound s ≡ true → s .setup .destinations ≤ maxDestinations
+few-destinations s h = sound-facts s h .setup .destinations .1

@@ -98,30 +98,72 @@ abbrev pub pickedAt : ℕ → ℕ
 pickedAt now =
     pickedJob (pickReply (stateFrom (succeeded 0 (pickReply (after 1 (jobTo0 0 40 ∷ [])) 0)) (jobTo0 10 4 ∷ jobTo0 12 2 ∷ [])) now)
 
+-- "first state, failure, 100% per window": "window 4, failure 18,623,404,800, cohorts 4,655,851,200"
+abbrev pub W1 : Type 0
+W1 = shownHealth (afterFailure (usual (perWindow 100)) 0 (Live (firstState (usual (perWindow 100))))) ≡ 4 ∷ 0 ∷ 18_623_404_800 ∷ 4_655_851_200 ∷ []
+
+-- "window 5, busy 1, success 4U/5, success, 100% per window": "window 6, both parts 0"
+abbrev pub W2 : Type 0
+W2 = shownHealth (afterSuccess (usual (perWindow 100)) 1 (sums 5 (4 * U / 5) 7 9)) ≡ 6 ∷ 0 ∷ 0 ∷ 0 ∷ []
+
+-- "window 6, busy 1, success": "only cohorts change, to 0"
+abbrev pub W3 : Type 0
+W3 = shownHealth (afterSuccess (usual (perWindow 100)) 1 (sums 6 7 8 9)) ≡ 6 ∷ 7 ∷ 8 ∷ 0 ∷ []
+
+-- "window 1, cohorts 0, failure, 100% flat": "window 1, cohorts U"
+abbrev pub W4 : Type 0
+W4 = shownHealth (afterFailure (usual (flat 100)) 0 (sums 1 0 0 0)) ≡ 1 ∷ 0 ∷ 0 ∷ U ∷ []
+
+-- "W4 again": "dead"
+abbrev pub W5 : Type 0
+W5 = shownHealth (afterFailure (usual (flat 100)) 0 (sums 1 0 0 U)) ≡ []
+
+-- "first state, failures, 100% flat": "4, 3, 2, dead"
+abbrev pub W6 : Type 0
+W6 = windowsFailing (usual (flat 100)) 4 (Live (firstState (usual (flat 100)))) ≡ 4 ∷ 3 ∷ 2 ∷ 0 ∷ []
+
+-- "window 20, busy 20, success, 100% flat": "20"
+abbrev pub W7 : Type 0
+W7 = windowOrDead (afterSuccess (usual (flat 100)) 20 (sums 20 0 0 0)) ≡ 20
+
+-- "A of 20, B of 2, one destination, success reported after each pick": "A B B, then A". A is job 0, B is job 1
+abbrev pub W8 : Type 0
+W8 = served pickedJob 0 4 (after 1 (jobTo0 0 20 ∷ jobTo0 0 2 ∷ [])) ≡ 0 ∷ 1 ∷ 1 ∷ 0 ∷ []
+
+-- "current n = 14; n = 15; other conditions met": "stays; preempted", at the second pick
+abbrev pub W9 : Type 0
+W9 = served pickedJob 0 2 (after 1 (jobTo0 0 14 ∷ jobTo0 0 2 ∷ [])) ≡ 0 ∷ 0 ∷ []
+
+abbrev pub W9b : Type 0
+W9b = served pickedJob 0 2 (after 1 (jobTo0 0 15 ∷ jobTo0 0 2 ∷ [])) ≡ 0 ∷ 1 ∷ []
+
+-- "B came at 10, m 4; C at 12, m 2": "at 13 B (tie), at 14 C". B is job 1, C is job 2
+abbrev pub W10 : Type 0
+W10 = pickedAt 13 ≡ 1
+
+abbrev pub W10b : Type 0
+W10b = pickedAt 14 ≡ 2
+
+-- "n = 100, nothing sold, m = 7": "not at a = 4; at a = 5", the fifth pick and the sixth
+abbrev pub W11 : Type 0
+W11 = served pickedJob 0 6 (after 1 (jobTo0 0 100 ∷ jobTo0 0 7 ∷ [])) ≡ 0 ∷ 0 ∷ 0 ∷ 0 ∷ 0 ∷ 1 ∷ []
+
+-- "job to destinations 0 0 1 2": "order 0 1 2 0"
+abbrev pub W12 : Type 0
+W12 = served pickedDestination 0 4 (after 3 (job 0 0 (0 ∷ 0 ∷ 1 ∷ 2 ∷ []) buffer ∷ [])) ≡ 0 ∷ 1 ∷ 2 ∷ 0 ∷ []
+
 pub record Worked : Type 0 where
-  -- "first state, failure, 100% per window": "window 4, failure 18,623,404,800, cohorts 4,655,851,200"
-  pub w1 : shownHealth (afterFailure (usual (perWindow 100)) 0 (Live (firstState (usual (perWindow 100))))) ≡ 4 ∷ 0 ∷ 18_623_404_800 ∷ 4_655_851_200 ∷ []
-  -- "window 5, busy 1, success 4U/5, success, 100% per window": "window 6, both parts 0"
-  pub w2 : shownHealth (afterSuccess (usual (perWindow 100)) 1 (sums 5 (4 * U / 5) 7 9)) ≡ 6 ∷ 0 ∷ 0 ∷ 0 ∷ []
-  -- "window 6, busy 1, success": "only cohorts change, to 0"
-  pub w3 : shownHealth (afterSuccess (usual (perWindow 100)) 1 (sums 6 7 8 9)) ≡ 6 ∷ 7 ∷ 8 ∷ 0 ∷ []
-  -- "window 1, cohorts 0, failure, 100% flat": "window 1, cohorts U"
-  pub w4 : shownHealth (afterFailure (usual (flat 100)) 0 (sums 1 0 0 0)) ≡ 1 ∷ 0 ∷ 0 ∷ U ∷ []
-  -- "W4 again": "dead"
-  pub w5 : shownHealth (afterFailure (usual (flat 100)) 0 (sums 1 0 0 U)) ≡ []
-  -- "first state, failures, 100% flat": "4, 3, 2, dead"
-  pub w6 : windowsFailing (usual (flat 100)) 4 (Live (firstState (usual (flat 100)))) ≡ 4 ∷ 3 ∷ 2 ∷ 0 ∷ []
-  -- "window 20, busy 20, success, 100% flat": "20"
-  pub w7 : windowOrDead (afterSuccess (usual (flat 100)) 20 (sums 20 0 0 0)) ≡ 20
-  -- "A of 20, B of 2, one destination, success reported after each pick": "A B B, then A". A is job 0, B is job 1
-  pub w8 : served pickedJob 0 4 (after 1 (jobTo0 0 20 ∷ jobTo0 0 2 ∷ [])) ≡ 0 ∷ 1 ∷ 1 ∷ 0 ∷ []
-  -- "current n = 14; n = 15; other conditions met": "stays; preempted", at the second pick
-  pub w9 : served pickedJob 0 2 (after 1 (jobTo0 0 14 ∷ jobTo0 0 2 ∷ [])) ≡ 0 ∷ 0 ∷ []
-  pub w9b : served pickedJob 0 2 (after 1 (jobTo0 0 15 ∷ jobTo0 0 2 ∷ [])) ≡ 0 ∷ 1 ∷ []
-  -- "B came at 10, m 4; C at 12, m 2": "at 13 B (tie), at 14 C". B is job 1, C is job 2
-  pub w10 : pickedAt 13 ≡ 1
-  pub w10b : pickedAt 14 ≡ 2
-  -- "n = 100, nothing sold, m = 7": "not at a = 4; at a = 5", the fifth pick and the sixth
-  pub w11 : served pickedJob 0 6 (after 1 (jobTo0 0 100 ∷ jobTo0 0 7 ∷ [])) ≡ 0 ∷ 0 ∷ 0 ∷ 0 ∷ 0 ∷ 1 ∷ []
-  -- "job to destinations 0 0 1 2": "order 0 1 2 0"
-  pub w12 : served pickedDestination 0 4 (after 3 (job 0 0 (0 ∷ 0 ∷ 1 ∷ 2 ∷ []) buffer ∷ [])) ≡ 0 ∷ 1 ∷ 2 ∷ 0 ∷ []
+  pub w1 : W1
+  pub w2 : W2
+  pub w3 : W3
+  pub w4 : W4
+  pub w5 : W5
+  pub w6 : W6
+  pub w7 : W7
+  pub w8 : W8
+  pub w9 : W9
+  pub w9b : W9b
+  pub w10 : W10
+  pub w10b : W10b
+  pub w11 : W11
+  pub w12 : W12

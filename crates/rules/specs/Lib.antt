@@ -14,6 +14,7 @@ pub mod Refusals
 pub mod Calls
 pub mod Lent
 pub mod Answers
+pub mod Gave
 pub mod Tally
 pub mod Run
 pub mod Ledger

@@ -74,12 +74,16 @@ unfoldable pub paysForBest : State → ℕ → ℕ → ℕ → Bool
 paysForBest s t y zero = false
 paysForBest s t y (suc x) = paysFor (settingsOf s t) (owned (creditOf s t y)) (waitingOf s x)
 
+-- "n ≥ M·c"
+unfoldable pub longEnough : Settings → ℕ → Bool
+longEnough g n = leb (g .minimum * g .cost) n
+
 -- "It is preempted when c is not 0, a ≥ 1, n ≥ M·c, a candidate exists, and for the best one .."
 unfoldable pub isPreempted : State → ℕ → ℕ → ℕ → Bool
 isPreempted s now t y =
     not (eqb (settingsOf s t .cost) 0)
     && hasCredit (creditOf s t y)
-    && leb (settingsOf s t .minimum * settingsOf s t .cost) (at (s .jobs .n) y)
+    && longEnough (settingsOf s t) (at (s .jobs .n) y)
     && paysForBest s t y (bestCandidate s now t y)
 
 -- the link to the job that preempts the current job y; 0 where none does

@@ -1,8 +1,1 @@
-pub mod CallLaws
-pub mod LayoutLaws
-pub mod KindLaws
-pub mod RowLaws
-pub mod ReadingLaws
-pub mod RunLaws
 pub mod Transcript
-pub mod RunAll

@@ -3,14 +3,13 @@ use Prim.Native.Nat.{ℕ}
 use mathlib.Core.Path.{_≡_, refl, sym, _∙_, ap, ap₂, subst}
 use mathlib.Core.Bool.{true}
 use mathlib.Core.List.{List, [], _∷_, map}
-use Rattle.laws.specs.Choice.{if_then_else_}
 use Rattle.rules.specs.declared.Setup.{Setup}
 use Rattle.rules.specs.declared.State.{State}
 use Rattle.rules.specs.declared.SetupReply.{SetupReply}
 use Rattle.rules.specs.Setup.{setupInRange, freshState}
-use Rattle.rules.specs.Refusals.{setupRefusal}
-use Rattle.rules.specs.Calls.{Reply, Call, job, pick, report, ask, board, unlessRefused, setupReply, replyTo}
+use Rattle.rules.specs.Calls.{Reply, Call, job, pick, report, ask, board, replyTo}
 use Rattle.rules.specs.Run.{repliesFrom}
+use Rattle.rules.proofs.Replies.{start-is}
 use Rattle.rules.proofs.Demand3.{demand3, companions}
 use Rattle.scheduler.specs.Transcript.{Step, Kept, Follows, Transcript, callsOf, Holds}
 
@@ -28,10 +27,6 @@ replies-are s [] h = refl
 replies-are s (x ∷ xs) (handed, kept, rest) =
     let given : x .gave ≡ replyTo s (x .call) = kept-is (x .call) (x .handed) (x .gave) kept ∙ ap (λ z. replyTo z (x .call)) handed in
     ap₂ _∷_ given (replies-are (x .gave .state) xs rest ∙ ap (λ r. repliesFrom (r .state) (callsOf xs)) given)
-
-pub start-is : (u : Setup) → setupInRange u ≡ true → setupReply u .state ≡ freshState u
-unfolding setupReply setupRefusal unlessRefused if_then_else_
-start-is u h = rw h refl
 
 pub transcript-holds : (u : Setup) (start : SetupReply) (steps : List Step) → Transcript u start steps → Holds u steps
 transcript-holds u start steps t =

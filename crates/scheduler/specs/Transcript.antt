@@ -10,7 +10,7 @@ use Rattle.rules.specs.Setup.{freshState}
 use Rattle.rules.specs.Calls.{Reply, Call, job, pick, report, ask, board, jobReply, pickReply, reportReply, askReply, boardReply}
 use Rattle.rules.specs.Run.{repliesFrom}
 use Rattle.rules.specs.Demand3.{Demand3, Companions}
-use Rattle.scheduler.specs.Gave.{SetupKept, accepts}
+use Rattle.rules.specs.Gave.{SetupKept, accepts}
 
 -- one call: its arguments, the state that it was handed, and what it gave back
 pub record Step : Type 0 where

@@ -8,8 +8,8 @@ use Rattle.laws.specs.Range.{countTo}
 use Rattle.rules.specs.declared.State.{State}
 use Rattle.rules.specs.State.{at, isWaiting, destinationOf, waitsOf, busyOf, waitingOf}
 use Rattle.rules.specs.Sound.{busyOn, busyTo}
-use Rattle.soundness.specs.declared.Tally.{Tally}
-use Rattle.soundness.specs.Columns.{Columns, columns, tallyTo, Tables}
+use Rattle.counting.specs.declared.Tally.{Tally}
+use Rattle.counting.specs.Counting.{Columns, columns, tallyTo, Tables}
 
 -- the columns that the pass over the entries reads
 abbrev pub columnsOf : State → List Bool → Columns

@@ -1,10 +1,3 @@
 pub mod Counted
-pub mod JobLaws
-pub mod ListLaws
-pub mod OrderLaws
-pub mod PairLaws
 pub mod Parts
-pub mod Ranges
-pub mod Shapes
-pub mod TallyLaws
 pub mod Whole

@@ -26,9 +26,10 @@ use Rattle.rules.specs.Sound.{implies, isJobOn, orderOf, costOf, sound}
 use Rattle.rules.specs.SoundFacts.{EntrySound, ChildOf, DestinationSound}
 use Rattle.rules.proofs.RangeFacts.{within-of, implies-of, in-range-of}
 use Rattle.rules.proofs.Soundness.{sound-facts}
-use Rattle.soundness.specs.declared.Tally.{Tally}
-use Rattle.soundness.specs.Columns.{orderList, distinct, orderTest, belongsTest, entryTest, Tables, countsTest, soldTest, childTest, jobTest}
-use Rattle.soundness.specs.Columns.{queueTest, healthTest, destinationTest}
+use Rattle.counting.specs.declared.Tally.{Tally}
+use Rattle.clauses.specs.Clauses.{orderList, distinct, orderTest, countsTest, soldTest, childTest, jobTest}
+use Rattle.counting.specs.Counting.{belongsAt, belongsTest, entryTest, Tables}
+use Rattle.clauses.specs.Clauses.{queueTest, healthTest, destinationTest}
 use Rattle.soundness.proofs.Counted.{columnsOf, waiting-is, busy-is, held-is, to-is, on-is}
 
 module _ (s : State) where
@@ -84,7 +85,7 @@ module _ (s : State) where
     marked e = getD table (256 * jobOf s e + destinationOf s e) false
 
     used-of : (e : ℕ) → (isFree s e ≡ false → EntrySound s e × (marked e ≡ true)) → entryTest (columnsOf s table) e ≡ true
-    unfolding entryTest belongsTest marked
+    unfolding entryTest belongsTest belongsAt marked
     used-of e h =
         case-bool (isFree s e) (or-left _) λ f.
         or-right (isFree s e)

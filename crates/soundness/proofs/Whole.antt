@@ -26,10 +26,11 @@ use Rattle.rules.specs.Sound.{implies, isJobOn, orderOf, costOf, sound}
 use Rattle.rules.specs.SoundFacts.{InRange, EntrySound, QueueSound, ArrivalsSound, ChildOf, JobSound, DestinationSound}
 use Rattle.rules.proofs.RangeFacts.{within-facts, implies-at, in-range-facts}
 use Rattle.rules.proofs.Soundness.{sound-of}
-use Rattle.soundness.specs.declared.Tally.{Tally}
-use Rattle.soundness.specs.Columns.{orderList, distinct, orderTest, belongsTest, entryTest, Tables, countsTest, soldTest, childTest, jobTest}
-use Rattle.soundness.specs.Columns.{queueTest, healthTest, destinationTest}
-use Rattle.soundness.proofs.JobLaws.{child-near}
+use Rattle.counting.specs.declared.Tally.{Tally}
+use Rattle.clauses.specs.Clauses.{orderList, distinct, orderTest, countsTest, soldTest, childTest, jobTest}
+use Rattle.counting.specs.Counting.{belongsAt, belongsTest, entryTest, Tables}
+use Rattle.clauses.specs.Clauses.{queueTest, healthTest, destinationTest}
+use Rattle.clauses.proofs.JobLaws.{child-near}
 use Rattle.soundness.proofs.Counted.{columnsOf, waiting-is, busy-is, held-is, to-is, on-is}
 use Rattle.soundness.proofs.Parts.{part-destinations}
 
@@ -82,7 +83,7 @@ module _ (s : State) where
       (marks : (j : ℕ) → j < 32 → isPresent s j ≡ true → (d : ℕ) → d < 256 → getD table (256 * j + d) false ≡ holds d (orderList (s .jobs .order) j (at (s .jobs .places) j))) where
     -- of a used entry
     used-facts : (e : ℕ) → entryTest (columnsOf s table) e ≡ true → isFree s e ≡ false → EntrySound s e × (getD table (256 * jobOf s e + destinationOf s e) false ≡ true)
-    unfolding entryTest belongsTest
+    unfolding entryTest belongsTest belongsAt
     used-facts e h f =
         let there = isPresent s (jobOf s e) in
         let inside = ltb (destinationOf s e) (s .setup .destinations) in

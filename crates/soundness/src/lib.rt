@@ -1,37 +1,18 @@
-// Document 01, "Refusal numbers", "Sound means": whether a state is sound, whatever numbers it holds. One pass over the entries, with tables.
+// Document 01, "Refusal numbers", "Sound means": whether a state is sound, whatever numbers it holds.
+use clauses::busy;
+use clauses::destinations;
+use clauses::jobs;
+use clauses::orders;
+use clauses::queues;
+use columns::wide;
 use rules::State;
-
-mod destinations;
-mod entries;
-mod jobs;
-mod orders;
-mod queues;
-
 ghost use mathlib.Core.Path.{_≡_};
 ghost use mathlib.Core.Bool.{true};
 ghost use Prim.Native.Nat.{ℕ, _<_};
 ghost use lib.ListN.{length};
 ghost use Rattle.rules.specs.State.{at};
 ghost use Rattle.rules.specs.Sound.{sound};
-ghost use Rattle.soundness.specs.Columns.{Paired};
-
-// A number of a column, wide enough to be an index or to be added to.
-fn wide(x: u8) -> usize
-    ensures { λ r. ⌜ (r ≡ x) × (r < 256) ⌝ }
-{
-    x as usize
-}
-
-// What the pass over the entries counts: waiting and busy entries of each job, waiting and busy ones to each destination, busy ones on each
-// transport. Nothing is said of the counts where an entry is not good.
-pub struct Tally {
-    pub good: bool,
-    pub waiting: [u16; 32],
-    pub busy: [u16; 32],
-    pub held: [u16; 32],
-    pub to: [u16; 32],
-    pub on: [u16; 4],
-}
+ghost use Rattle.counting.specs.Counting.{Paired};
 
 // Whether a state is sound. Where it is, the table of zeros becomes that of the waiting entries of each job to each destination.
 pub fn sound_with(s: State, pairs: &mut [u16; 1024]) -> bool
@@ -40,7 +21,7 @@ pub fn sound_with(s: State, pairs: &mut [u16; 1024]) -> bool
     ensures pairs { λ r. ⌜ (r ≡ true → Paired (s .entries .kind) (s .entries .job) (s .entries .destination) (now (pairs .exit))) ⌝ }
 {
     let u = s.setup;
-    if !startup::in_range(u) {
+    if !ranges::in_range(u) {
         return false;
     }
     let transports = u.transports as usize;
@@ -55,7 +36,7 @@ pub fn sound_with(s: State, pairs: &mut [u16; 1024]) -> bool
         return false;
     }
     let entries = s.entries;
-    let counted = entries::count_entries(
+    let counted = counting::count_entries(
         &entries.kind,
         &entries.job,
         &entries.destination,
@@ -75,10 +56,10 @@ pub fn sound_with(s: State, pairs: &mut [u16; 1024]) -> bool
     let to = counted.to;
     let on = counted.on;
     let stored = s.busy;
-    if !entries::agree(&stored.transport, &on, transports) {
+    if !busy::agree(&stored.transport, &on, transports) {
         return false;
     }
-    if !entries::agree(&stored.destination, &to, destinations) {
+    if !busy::agree(&stored.destination, &to, destinations) {
         return false;
     }
     if !jobs::jobs_right(g, u, waiting, busy) {

@@ -1,1 +1,2 @@
-pub mod SetupLaws
+pub mod FirstLaws
+pub mod SetupReplies

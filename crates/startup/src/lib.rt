@@ -1,4 +1,4 @@
-// Document 01, "Set-up ranges": the test of a set-up, the state that it starts from, and the state of all zeros.
+// The set-up call: the state that a set-up starts from, or the state of all zeros where it is out of the ranges.
 use rules::Busy;
 use rules::Destination;
 use rules::Entries;
@@ -8,104 +8,17 @@ use rules::JobList;
 use rules::Jobs;
 use rules::Settings;
 use rules::Setup;
+use rules::SetupAnswer;
+use rules::SetupReply;
 use rules::State;
 use rules::Sums;
 ghost use mathlib.Core.Path.{_≡_};
 ghost use mathlib.Core.Bool.{true};
-ghost use Prim.Native.Nat.{_≤_};
-ghost use lib.ListN.{getD};
-ghost use lib.Dec.{ltb};
-ghost use Rattle.laws.specs.Range.{allTo, tableTo};
-ghost use Rattle.rules.specs.State.{at, zeroSettings, zeroDestination, zeroList};
-ghost use Rattle.rules.specs.Setup.{within, feedbackInRange, slotsInRange, windowsInRange, settingsInRange, setupInRange};
+ghost use Rattle.laws.specs.Range.{tableTo};
+ghost use Rattle.rules.specs.State.{zeroSettings, zeroDestination, zeroList};
+ghost use Rattle.rules.specs.Setup.{setupInRange};
 ghost use Rattle.rules.specs.Setup.{firstDestination, noBusy, noJobs, noEntries, emptyState, zeroSetup, zeroState, freshState};
-
-// Low to high, both ends in.
-fn within(low: u64, high: u64, x: u64) -> bool
-    ensures { λ r. ⌜ r ≡ within low high x ⌝ }
-{
-    (low <= x) & (x <= high)
-}
-
-fn feedback_in_range(f: Feedback) -> bool
-    ensures { λ r. ⌜ r ≡ feedbackInRange f ⌝ }
-{
-    within(0, 100, f.percent) & within(0, 1, f.form)
-}
-
-fn slots_in_range(g: Settings) -> bool
-    ensures { λ r. ⌜ r ≡ slotsInRange g ⌝ }
-{
-    within(1, 100, g.agents)
-        & ((g.cost == 0) | within(2, 100, g.cost))
-        & within(0, 100, g.loan)
-        & within(0, 100, g.discount)
-        & within(0, 100, g.minimum)
-}
-
-fn windows_in_range(g: Settings) -> bool
-    ensures { λ r. ⌜ r ≡ windowsInRange g ⌝ }
-{
-    let positive = g.positive;
-    let negative = g.negative;
-    within(1, 20, g.limit)
-        & within(1, g.limit, g.initial)
-        & feedback_in_range(positive)
-        & feedback_in_range(negative)
-        & within(1, 100, g.cohortlimit)
-        & within(1, 86400, g.suspension)
-}
-
-// Whether one transport's settings are in the ranges, whatever they are.
-pub fn settings_in_range(g: Settings) -> bool
-    ensures { λ r. ⌜ r ≡ settingsInRange g ⌝ }
-{
-    slots_in_range(g) & windows_in_range(g)
-}
-
-// Whether the settings of the first n transports are.
-fn all_settings_in_range(settings: [Settings; 4], n: usize) -> bool
-    requires { ⌜ n ≤ 4 ⌝ }
-    ensures { λ r. ⌜ r ≡ allTo (λ t. settingsInRange (getD settings t zeroSettings)) n ⌝ }
-{
-    let mut good = true;
-    let mut t: usize = 0;
-    while t < n {
-        let g = settings[t];
-        good = good & settings_in_range(g);
-        t += 1;
-    }
-    good
-}
-
-// Whether each of the first n destinations belongs to a transport that is there.
-fn all_homes_there(home: [u64; 32], transports: u64, n: usize) -> bool
-    requires { ⌜ n ≤ 32 ⌝ }
-    ensures { λ r. ⌜ r ≡ allTo (λ d. ltb (at home d) transports) n ⌝ }
-{
-    let mut good = true;
-    let mut d: usize = 0;
-    while d < n {
-        good = good & (home[d] < transports);
-        d += 1;
-    }
-    good
-}
-
-// Whether a set-up is in the ranges, whatever it is.
-pub fn in_range(u: Setup) -> bool
-    ensures { λ r. ⌜ r ≡ setupInRange u ⌝ }
-{
-    let transports = u.transports;
-    let destinations = u.destinations;
-    if !(within(1, 4, transports) & within(1, 32, destinations)) {
-        return false;
-    }
-    let settings = u.settings;
-    let home = u.home;
-    all_settings_in_range(settings, transports as usize)
-        & all_homes_there(home, transports, destinations as usize)
-}
+ghost use Rattle.rules.specs.Gave.{SetupKept};
 
 fn no_busy() -> Busy
     ensures { λ r. ⌜ r ≡ noBusy ⌝ }
@@ -250,10 +163,26 @@ fn first_destinations(u: Setup) -> [Destination; 32]
     ds
 }
 
-// The state that a set-up starts from. That it is in range, `in_range` has said.
+// The state that a set-up starts from. That it is in range, `ranges::in_range` has said.
 pub fn fresh(u: Setup) -> State
     requires { ⌜ setupInRange u ≡ true ⌝ }
     ensures { λ r. ⌜ r ≡ freshState u ⌝ }
 {
     empty(u, first_destinations(u))
+}
+
+// The state of a set-up. A refused one gives the state of all zeros.
+pub fn set_up(u: Setup) -> SetupReply
+    ensures { λ r. ⌜ SetupKept u r ⌝ }
+{
+    if !ranges::in_range(u) {
+        return SetupReply {
+            answer: SetupAnswer::Refused(2),
+            state: zero(),
+        };
+    }
+    SetupReply {
+        answer: SetupAnswer::Accepted,
+        state: fresh(u),
+    }
 }

@@ -1,3 +1,2 @@
-pub mod Passes
-pub mod Refusing
 pub mod Replying
+pub mod JobReplies

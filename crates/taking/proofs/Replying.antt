@@ -35,9 +35,10 @@ use Rattle.rules.proofs.Taken.{Fits, Passed, fits-of, new-below, new-absent, ne
 use Rattle.rules.proofs.TakenLists.{queue-once, arrivals-once}
 use Rattle.rules.proofs.Accepted.{JobAccepted, passed-of}
 use Rattle.rules.proofs.KeptWaking.{woken-setup}
-use Rattle.taking.specs.Columns.{deadOn, onTransport, freeIn, keptBy, putOffBy, Parted}
-use Rattle.taking.specs.declared.new_job.Parts.{Parts}
-use Rattle.taking.proofs.Refusing.{Small, small-of, woken-table, kept-by-is, put-off-by-is}
+use Rattle.admission.specs.Admission.{deadOn, onTransport, freeIn, keptBy, putOffBy}
+use Rattle.newjob.specs.NewJob.{Parted}
+use Rattle.newjob.specs.declared.Parts.{Parts}
+use Rattle.admission.proofs.Refusing.{Small, small-of, woken-table, kept-by-is, put-off-by-is}
 
 -- The two replies.
 

@@ -1,78 +1,22 @@
-// Taking a job, after soundness was tested: which refusal it meets, and what it does where it meets none.
-mod new_job;
-mod refusals;
-
-use new_job::fill_from;
-use new_job::fill_same;
-use new_job::firsts;
-use new_job::free_places;
-use new_job::put_last;
-use new_job::set_order;
-use new_job::split;
-use refusals::all_on;
-use refusals::count_free;
-use refusals::count_kept;
-use refusals::dead_table;
-use refusals::first_absent;
+// The job call: a message for one transport, with an entry for each delivery. Document 01, "Time and tickets".
+use admission::dead_table;
+use admission::first_absent;
+use newjob::fill_from;
+use newjob::fill_same;
+use newjob::firsts;
+use newjob::free_places;
+use newjob::put_last;
+use newjob::set_order;
+use newjob::split;
 use rules::JobAnswer;
 use rules::JobReply;
 use rules::State;
 ghost use mathlib.Core.Path.{_≡_};
-ghost use mathlib.Core.Bool.{true};
-ghost use mathlib.Core.List.{List};
-ghost use Prim.Native.Nat.{ℕ};
-ghost use lib.ListN.{length};
-ghost use Rattle.rules.specs.Sound.{sound};
 ghost use Rattle.rules.specs.Refusals.{jobRefusal};
 ghost use Rattle.rules.specs.Windows.{woken};
-ghost use Rattle.rules.specs.Calls.{Reply, takingReply};
+ghost use Rattle.rules.specs.Calls.{Reply, takingReply, jobReply};
 ghost use Rattle.rules.specs.Answers.{jobSays};
-
-// The refusal that a job meets, in the table's order; 0 for none. The caller has tested that the state is sound.
-pub fn refusal(s: State, now: u64, t: u64, dests: &[u64], places: usize) -> u8
-    requires { ⌜ sound s ≡ true ⌝ }
-    ensures { λ r. ⌜ ((list : List ℕ) → length list ≡ places → r ≡ jobRefusal s now t (dests .entry .now) list) ⌝ }
-{
-    let clock = s.clock as u64;
-    if now < clock {
-        return 3;
-    }
-    if 4_294_967_295 < now {
-        return 3;
-    }
-    let u = s.setup;
-    let transports = u.transports;
-    if transports <= t {
-        return 4;
-    }
-    if dests.len() < 1 {
-        return 5;
-    }
-    if 256 < dests.len() {
-        return 5;
-    }
-    if !all_on(&u.home, u.destinations, t, dests) {
-        return 6;
-    }
-    let before = s.destinations;
-    let ds = window::wake(before, u, now);
-    let dead = dead_table(ds);
-    let n = count_kept(dests, &dead);
-    let g = s.jobs;
-    let number = first_absent(&g.present);
-    if (0 < n) & (number == 32) {
-        return 7;
-    }
-    let e = s.entries;
-    let free = count_free(&e.kind);
-    if free < n {
-        return 8;
-    }
-    if places < dests.len() {
-        return 10;
-    }
-    0
-}
+ghost use Rattle.rules.specs.Gave.{jobGave};
 
 // A job that meets no refusal. Its entries for dead destinations are put off; the others wait, if there are any, and are a new job.
 pub fn take(s: State, now: u64, t: u64, dests: &[u64], list: &mut [u16]) -> JobReply
@@ -133,4 +77,26 @@ pub fn take(s: State, now: u64, t: u64, dests: &[u64], list: &mut [u16]) -> JobR
         },
         state: next,
     }
+}
+
+// A job with an entry for each destination. Positions of entries put off at once go to the lent list; places past
+// them stay.
+pub fn take_job(s: State, now: u64, transport: u64, dests: &[u64], list: &mut [u16]) -> JobReply
+    ensures { λ r. ⌜ jobGave r (list .exit .now) ≡ jobReply s now transport (dests .entry .now) (list .entry .now) ⌝ }
+{
+    let mut pairs = [0u16; 1024];
+    if !soundness::sound_with(s, &mut pairs) {
+        return JobReply {
+            answer: JobAnswer::Refused(1),
+            state: s,
+        };
+    }
+    let k = admission::refusal(s, now, transport, dests, list.len());
+    if k != 0 {
+        return JobReply {
+            answer: JobAnswer::Refused(k),
+            state: s,
+        };
+    }
+    take(s, now, transport, dests, list)
 }

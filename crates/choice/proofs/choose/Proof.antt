@@ -12,13 +12,13 @@ use Rattle.rules.specs.Picking.{eligibleTo, hasEligible, nextPlace, nextEntry}
 use Rattle.rules.specs.Preemption.{preemptorOf}
 use Rattle.rules.specs.Setup.{settingsInRange}
 use Rattle.rules.proofs.Shape.{Shaped}
-use Rattle.choice.specs.Choosing.{waitingAt}
-use Rattle.choice.specs.Columns.{readyIn}
-use Rattle.choice.specs.Facts.{Reads}
-use Rattle.soundness.proofs.Shapes.{shaped}
-use Rattle.choice.proofs.Credits.{index-fits, same-below}
-use Rattle.choice.proofs.Lefts.{left-is, fits-left}
-use Rattle.choice.proofs.Pairs.{tally-reads, place-open, first-read}
+use Rattle.preemption.specs.Preempting.{waitingAt}
+use Rattle.eligibility.specs.Eligibility.{readyIn}
+use Rattle.eligibility.specs.Eligibility.{Reads}
+use Rattle.columns.proofs.Shapes.{shaped}
+use Rattle.preemption.proofs.Credits.{index-fits, same-below}
+use Rattle.eligibility.proofs.Lefts.{left-is, fits-left}
+use Rattle.eligibility.proofs.Pairs.{tally-reads, place-open, first-read}
 use Rattle.choice.proofs.Glue.{TurnRead, adds-read, turn-read, not-found, next-open, placed-read, entry-read}
 use Rattle.choice.proofs.Chosen.{slots-read, arrived-read, sold-read, job-read, nothing-chosen, all-chosen}
 use Rattle.choice.proofs.choose.Statement.{statement}

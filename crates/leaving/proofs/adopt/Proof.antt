@@ -8,7 +8,7 @@ use lib.ListN.{drop, replicate}
 use Rattle.laws.proofs.Choice.{if-true, if-false}
 use Rattle.laws.specs.Range.{tableTo}
 use Rattle.laws.proofs.Fill.{fill-none, fill-more, fill-all}
-use Rattle.leaving.specs.Columns.{adoptedAt}
+use Rattle.leaving.specs.Leaving.{adoptedAt}
 use Rattle.leaving.proofs.adopt.Statement.{statement}
 use Rattle.leaving.proofs.adopt.Tie as tie
 

@@ -9,7 +9,7 @@ use native.Mathlib.Omega.{arith}
 use lib.ListN.{length, getD, drop}
 use Rattle.laws.specs.Range.{tableTo}
 use Rattle.laws.proofs.Fill.{fill-none, fill-more, fill-all}
-use Rattle.leaving.specs.Columns.{staysAt, emptied}
+use Rattle.leaving.specs.Leaving.{staysAt, emptied}
 use Rattle.leaving.proofs.Marks.{stay-kept}
 use Rattle.leaving.proofs.left_with_some.Statement.{statement}
 use Rattle.leaving.proofs.left_with_some.Tie as tie

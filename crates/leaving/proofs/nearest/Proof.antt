@@ -9,7 +9,7 @@ use Rattle.laws.proofs.Walk.{nearest-none, nearest-end, nearest-here, nearest-o
 use Rattle.rules.specs.State.{at}
 use Rattle.charging.specs.Links.{leadsInside}
 use Rattle.charging.proofs.Leads.{leads-below, leads-next}
-use Rattle.leaving.specs.Columns.{nearestOf}
+use Rattle.leaving.specs.Leaving.{nearestOf}
 use Rattle.leaving.proofs.nearest.Statement.{statement}
 use Rattle.leaving.proofs.nearest.Tie as tie
 
@@ -35,7 +35,7 @@ element-copy-out-if2 : tie.Need-element-copy-out-if2 Inv-loop μ-loop
 element-copy-out-if2 c = omega (arith, leads-below _ _ _ (omega arith) (omega arith) (c .before .before .before .loop .inv .1))
 
 returns-2 : tie.Need-returns-2 Inv-loop μ-loop
-returns-2 c = sym (nearest-here _ _ _ _ _ (omega arith) (omega arith) (c .before .before .wide .ensures) (c .if2 .taken)) ∙ c .before .before .before .before .before .loop .inv .0
+returns-2 c = sym (nearest-here _ _ _ _ _ (omega arith) (omega arith) (c .before .before .wide .ensures .0) (c .if2 .taken)) ∙ c .before .before .before .before .before .loop .inv .0
 
 element-copy-out-link : tie.Need-element-copy-out-link Inv-loop μ-loop
 element-copy-out-link c = omega (arith, leads-below _ _ _ (omega arith) (omega arith) (c .before .before .before .before .before .loop .inv .1))
@@ -47,7 +47,7 @@ loop-less : tie.Need-loop-less Inv-loop μ-loop
 loop-less c = omega arith
 
 loop-again : tie.Need-loop-again Inv-loop μ-loop
-loop-again c = (nearest-on (λ x. getD (c .before .before .before .before .before .before .before .args .stays .now) x false) (at (c .before .before .before .before .before .before .before .args .parent .now)) (c .before .before .before .before .before .before .loop .left) (c .before .before .before .before .before .before .loop .link) (c .before .before .before .wide .result) (omega arith) (omega arith) (c .before .before .before .wide .ensures) (c .before .if2 .left) ∙ c .before .before .before .before .before .before .loop .inv .0, rw (c .before .before .before .wide .ensures) (leads-next _ _ _ (omega arith) (omega arith) (c .before .before .before .before .before .before .loop .inv .1)))
+loop-again c = (nearest-on (λ x. getD (c .before .before .before .before .before .before .before .args .stays .now) x false) (at (c .before .before .before .before .before .before .before .args .parent .now)) (c .before .before .before .before .before .before .loop .left) (c .before .before .before .before .before .before .loop .link) (c .before .before .before .wide .result) (omega arith) (omega arith) (c .before .before .before .wide .ensures .0) (c .before .if2 .left) ∙ c .before .before .before .before .before .before .loop .inv .0, rw (c .before .before .before .wide .ensures .0) (leads-next _ _ _ (omega arith) (omega arith) (c .before .before .before .before .before .before .loop .inv .1)))
 
 returns-3 : tie.Need-returns-3 Inv-loop μ-loop
 returns-3 c = sym (nearest-none _ _ _ _ (c .loop-test .left)) ∙ c .before .loop .inv .0

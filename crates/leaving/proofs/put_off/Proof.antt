@@ -33,16 +33,16 @@ wide-requires : tie.Need-wide-requires Inv-loop μ-loop
 wide-requires c κs = tt
 
 mul-dropped : tie.Need-mul-dropped Inv-loop μ-loop
-mul-dropped c = let b = c .before .before .before .before .before .before .before .before .before .args in omega (arith, put-job (b .d) (b .kind .now) (b .job .now) (b .destination .now) (b .dropped .now) (b .list .now) (c .before .before .before .before .before .before .before .before .before .pre) (c .before .before .before .before .before .before .loop .inv) (c .before .before .before .before .before .loop-test .taken) (c .before .before .if2 .taken) (c .wide .ensures))
+mul-dropped c = let b = c .before .before .before .before .before .before .before .before .before .args in omega (arith, put-job (b .d) (b .kind .now) (b .job .now) (b .destination .now) (b .dropped .now) (b .list .now) (c .before .before .before .before .before .before .before .before .before .pre) (c .before .before .before .before .before .before .loop .inv) (c .before .before .before .before .before .loop-test .taken) (c .before .before .if2 .taken) (c .wide .ensures .0))
 
 element-copy-out-dropped : tie.Need-element-copy-out-dropped Inv-loop μ-loop
-element-copy-out-dropped c = let b = c .before .before .before .before .before .before .before .before .before .args in put-job (b .d) (b .kind .now) (b .job .now) (b .destination .now) (b .dropped .now) (b .list .now) (c .before .before .before .before .before .before .before .before .before .pre) (c .before .before .before .before .before .before .loop .inv) (c .before .before .before .before .before .loop-test .taken) (c .before .before .if2 .taken) (c .wide .ensures)
+element-copy-out-dropped c = let b = c .before .before .before .before .before .before .before .before .before .args in put-job (b .d) (b .kind .now) (b .job .now) (b .destination .now) (b .dropped .now) (b .list .now) (c .before .before .before .before .before .before .before .before .before .pre) (c .before .before .before .before .before .before .loop .inv) (c .before .before .before .before .before .loop-test .taken) (c .before .before .if2 .taken) (c .wide .ensures .0)
 
 add-dropped : tie.Need-add-dropped Inv-loop μ-loop
-add-dropped c = let b = c .before .before .before .before .before .before .before .before .before .before .args in omega (arith, put-room (b .d) (b .kind .now) (b .job .now) (b .destination .now) (b .dropped .now) (b .list .now) (c .before .before .before .before .before .before .before .before .before .before .pre) (c .before .before .before .before .before .before .before .loop .inv) (c .before .before .before .before .before .before .loop-test .taken) (c .before .before .before .if2 .taken) (c .before .wide .ensures))
+add-dropped c = let b = c .before .before .before .before .before .before .before .before .before .before .args in omega (arith, put-room (b .d) (b .kind .now) (b .job .now) (b .destination .now) (b .dropped .now) (b .list .now) (c .before .before .before .before .before .before .before .before .before .before .pre) (c .before .before .before .before .before .before .before .loop .inv) (c .before .before .before .before .before .before .loop-test .taken) (c .before .before .before .if2 .taken) (c .before .wide .ensures .0))
 
 element-write-dropped : tie.Need-element-write-dropped Inv-loop μ-loop
-element-write-dropped c = let b = c .before .before .before .before .before .before .before .before .before .before .args in put-job (b .d) (b .kind .now) (b .job .now) (b .destination .now) (b .dropped .now) (b .list .now) (c .before .before .before .before .before .before .before .before .before .before .pre) (c .before .before .before .before .before .before .before .loop .inv) (c .before .before .before .before .before .before .loop-test .taken) (c .before .before .before .if2 .taken) (c .before .wide .ensures)
+element-write-dropped c = let b = c .before .before .before .before .before .before .before .before .before .before .args in put-job (b .d) (b .kind .now) (b .job .now) (b .destination .now) (b .dropped .now) (b .list .now) (c .before .before .before .before .before .before .before .before .before .before .pre) (c .before .before .before .before .before .before .before .loop .inv) (c .before .before .before .before .before .before .loop-test .taken) (c .before .before .before .if2 .taken) (c .before .wide .ensures .0)
 
 cast-list : tie.Need-cast-list Inv-loop μ-loop
 cast-list c = omega arith
@@ -66,7 +66,7 @@ loop-less : tie.Need-loop-less Inv-loop μ-loop
 loop-less c = omega arith
 
 loop-again : tie.Need-loop-again Inv-loop μ-loop
-loop-again c = let b = c .before .before .before .before .before .before .before .args in ⊎-elim (λ w. put-more (b .d) (b .kind .now) (b .job .now) (b .destination .now) (b .dropped .now) (b .list .now) (c .before .before .before .before .before .before .before .pre) (c .before .before .before .before .loop .inv) (c .before .before .before .loop-test .taken) (w .0 .taken) (w .2 .ensures) (w .4) (w .5) (w .6) (w .7)) (λ w. put-none (b .d) (b .kind .now) (b .job .now) (b .destination .now) (b .dropped .now) (b .list .now) (c .before .before .before .before .before .before .before .pre) (c .before .before .before .before .loop .inv) (c .before .before .before .loop-test .taken) (w .0 .left) (w .1) (w .2) (w .3) (w .4)) (c .if2 .came)
+loop-again c = let b = c .before .before .before .before .before .before .before .args in ⊎-elim (λ w. put-more (b .d) (b .kind .now) (b .job .now) (b .destination .now) (b .dropped .now) (b .list .now) (c .before .before .before .before .before .before .before .pre) (c .before .before .before .before .loop .inv) (c .before .before .before .loop-test .taken) (w .0 .taken) (w .2 .ensures .0) (w .4) (w .5) (w .6) (w .7)) (λ w. put-none (b .d) (b .kind .now) (b .job .now) (b .destination .now) (b .dropped .now) (b .list .now) (c .before .before .before .before .before .before .before .pre) (c .before .before .before .before .loop .inv) (c .before .before .before .loop-test .taken) (w .0 .left) (w .1) (w .2) (w .3) (w .4)) (c .if2 .came)
 
 cast-result : tie.Need-cast-result Inv-loop μ-loop
 cast-result c = let b = c .before .before .before .before .args in omega (arith, put-few (b .d) (b .kind .now) (b .job .now) (b .destination .now) (b .dropped .now) (b .list .now) (c .before .before .before .before .pre) (c .before .loop .inv))

@@ -5,7 +5,7 @@ use mathlib.Core.Path.{_≡_, refl, sym, ap, _∙_}
 use native.Mathlib.Omega.{arith}
 use Rattle.laws.specs.Range.{anyTo}
 use Rattle.laws.proofs.All.{any-step}
-use Rattle.leaving.specs.Columns.{elsewhere}
+use Rattle.leaving.specs.Leaving.{elsewhere}
 use Rattle.leaving.proofs.waits_elsewhere.Statement.{statement}
 use Rattle.leaving.proofs.waits_elsewhere.Tie as tie
 

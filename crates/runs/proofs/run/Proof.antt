@@ -12,7 +12,7 @@ use Rattle.runs.proofs.show_answers.Reads as show-answers-reads
 use Rattle.runs.proofs.show_end.Reads as show-end-reads
 use Rattle.runs.proofs.show_lists.Reads as show-lists-reads
 use Rattle.runs.proofs.show_texts.Reads as show-texts-reads
-use Rattle.scheduler.proofs.run.Reads as run-reads
+use Rattle.running.proofs.run.Reads as run-reads
 
 slice-aggregate-answers : tie.Need-slice-aggregate-answers
 slice-aggregate-answers c = search needs

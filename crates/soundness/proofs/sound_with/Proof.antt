@@ -5,10 +5,10 @@ use mathlib.Core.Bool.{false}
 use lib.ListN.{length, length-replicate, getD-replicate}
 use borrow.Author.Tests.{not-true, not-false}
 use Rattle.laws.proofs.Choice.{true-not-false, false-of}
-use Rattle.soundness.proofs.ListLaws.{listed-below}
-use Rattle.soundness.proofs.TallyLaws.{counts-within}
+use Rattle.clauses.proofs.ListLaws.{listed-below}
+use Rattle.counting.proofs.TallyLaws.{counts-within}
 use Rattle.rules.proofs.RangeFacts.{home-below}
-use Rattle.soundness.proofs.Ranges.{transports-few, destinations-few}
+use Rattle.clauses.proofs.Ranges.{transports-few, destinations-few}
 use Rattle.soundness.proofs.Parts.{part-range, part-turn, part-orders, part-entries, part-on, part-to, part-jobs, part-queues, part-arrivals, part-rising}
 use Rattle.soundness.proofs.Whole.{whole}
 use borrow.Author.Needs.{needs}

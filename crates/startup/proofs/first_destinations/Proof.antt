@@ -4,7 +4,7 @@ use Prim.Native.Nat.{_≤_, _-_}
 use mathlib.Core.Path.{_≡_, _∙_}
 use native.Mathlib.Omega.{arith}
 use Rattle.rules.proofs.RangeFacts.{in-range-facts, home-below}
-use Rattle.startup.proofs.SetupLaws.{firstTo, first-none, first-written, first-all}
+use Rattle.startup.proofs.FirstLaws.{firstTo, first-none, first-written, first-all}
 use Rattle.startup.proofs.first_destinations.Statement.{statement}
 use Rattle.startup.proofs.first_destinations.Tie as tie
 

@@ -13,7 +13,7 @@ use Rattle.rules.proofs.RangeFacts.{in-range-of}
 use Rattle.rules.proofs.Soundness.{sound-facts}
 use Rattle.rules.proofs.Accepted.{job-accepted}
 use Rattle.laws.proofs.Sequence.{length-padded, getD-padded}
-use Rattle.taking.proofs.Refusing.{number-is}
+use Rattle.admission.proofs.Refusing.{number-is}
 use Rattle.taking.proofs.Replying.{Facts, facts-of, accepted-small, accepted-transport, waits-none, waits-some, number-small, waits-few, kept-small, places-enough, order-few}
 use Rattle.taking.proofs.Replying.{places-small, column-is, arrivals-room, queue-room, queue-is, firsts-padded, order-is, woken-is, taken-is, replies-none, replies-some}
 use Rattle.taking.proofs.take.Statement.{statement}

@@ -1,0 +1,26 @@
+-- The ways that asking about a job can end: what the code gives there is the rules' reply.
+use Prim.Native.Nat.{ℕ}
+use mathlib.Core.Path.{_≡_, refl}
+use mathlib.Core.Bool.{true, false}
+use mathlib.Core.List.{[], _∷_}
+use Rattle.laws.specs.Choice.{if_then_else_}
+use Rattle.rules.specs.declared.State.{State}
+use Rattle.rules.specs.State.{at, isPresent}
+use Rattle.rules.specs.Sound.{sound}
+use Rattle.rules.specs.Refusals.{askRefusal}
+use Rattle.rules.specs.Calls.{refused, answers, unlessRefused, askReply}
+use Rattle.rules.proofs.Replies.{refusing-unsound}
+
+module _ (s : State) (j : ℕ) where
+  pub ask-unsound : sound s ≡ false → record { says = refused 1; state = s; buffer = [] } ≡ askReply s j
+  unfolding askReply askRefusal
+  ask-unsound h = refusing-unsound (sound s) _ s [] _ h
+
+  pub ask-absent : sound s ≡ true → isPresent s j ≡ false → record { says = refused 11; state = s; buffer = [] } ≡ askReply s j
+  unfolding askReply askRefusal unlessRefused if_then_else_
+  ask-absent h p = rw (h, p) refl
+
+  pub ask-answered : (sum : ℕ) → sound s ≡ true → isPresent s j ≡ true → sum ≡ at (s .jobs .overtakers) j
+      → record { says = answers (sum ∷ []); state = s; buffer = [] } ≡ askReply s j
+  unfolding askReply askRefusal unlessRefused if_then_else_
+  ask-answered sum h p e = rw (h, p, e) refl

@@ -1,0 +1,2 @@
+pub mod AskReplies
+pub mod BoardReplies

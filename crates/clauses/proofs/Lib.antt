@@ -1,0 +1,4 @@
+pub mod JobLaws
+pub mod ListLaws
+pub mod OrderLaws
+pub mod Ranges

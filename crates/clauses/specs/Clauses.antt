@@ -1,0 +1,92 @@
+-- "Sound means", clause by clause, over the columns that the code reads. What they say of a whole state: soundness/proofs/Parts.antt, Whole.antt.
+use Prim.Native.Nat.{ℕ, zero, suc, _+_, _*_, _≤_, _<_}
+use mathlib.Core.Path.{_≡_}
+use mathlib.Core.Bool.{Bool, true, false, _&&_}
+use mathlib.Core.List.{List}
+use lib.ListN.{length, getD}
+use lib.Dec.{eqb, ltb, leb}
+use Rattle.laws.specs.Range.{allTo, tableTo}
+use Rattle.laws.specs.Chain.{endsIn}
+use Rattle.laws.specs.Sequence.{holds, timesIn, everyIn, holdsEachOnce}
+use Rattle.rules.specs.declared.Settings.{Settings}
+use Rattle.rules.specs.declared.Setup.{Setup}
+use Rattle.rules.specs.declared.Health.{Health}
+use Rattle.rules.specs.declared.Health.the-variants.{Live, Dead}
+use Rattle.rules.specs.declared.JobList.{JobList}
+use Rattle.rules.specs.declared.Jobs.{Jobs}
+use Rattle.rules.specs.declared.Destination.{Destination}
+use Rattle.rules.specs.Sizes.{U}
+use Rattle.rules.specs.State.{at, zeroSettings, zeroDestination, zeroList, listOf}
+use Rattle.rules.specs.Setup.{within}
+use Rattle.rules.specs.Sound.{implies}
+
+-- Destination orders.
+
+-- the first n places of a job's order
+unfoldable pub orderList : List ℕ → ℕ → ℕ → List ℕ
+orderList order j n = tableTo (λ k. at order (32 * j + k)) n
+
+-- no number stands twice
+unfoldable pub distinct : List ℕ → Bool
+distinct l = everyIn (λ d. eqb (timesIn d l) 1) l
+
+unfoldable pub orderTest : List ℕ → ℕ → ℕ → Bool
+orderTest order j n = leb n 32 && distinct (orderList order j n)
+
+-- the list's numbers are marked in the table, from base on, unless one stands twice
+pub record Marked (l : List ℕ) (base : ℕ) (before after : List Bool) (r : Bool) : Type 0 where
+  pub right : r ≡ distinct l
+  pub size : length after ≡ 8192
+  pub marks : r ≡ true → (d : ℕ) → d < 256 → getD after (base + d) false ≡ holds d l
+  pub below : (k : ℕ) → k < base → getD after k false ≡ getD before k false
+  pub above : (k : ℕ) → base + 256 ≤ k → getD after k false ≡ getD before k false
+
+-- each present job's order is, from 256 times the job's number on
+pub record OrdersMarked (present : List Bool) (places order : List ℕ) (after : List Bool) (r : Bool) : Type 0 where
+  pub right : r ≡ allTo (λ j. implies (getD present j false) (orderTest order j (at places j))) 32
+  pub marks : r ≡ true → (j : ℕ) → j < 32 → getD present j false ≡ true → (d : ℕ) → d < 256
+      → getD after (256 * j + d) false ≡ holds d (orderList order j (at places j))
+
+-- Jobs.
+
+unfoldable pub countsTest : ℕ → ℕ → ℕ → ℕ → ℕ → Bool
+countsTest waiting busy n picked dropped = eqb (waiting + picked + dropped) n && within 1 256 n && leb busy picked
+
+unfoldable pub soldTest : ℕ → ℕ → ℕ → Bool
+soldTest cost sold n = leb (cost * sold) n && implies (eqb cost 0) (eqb sold 0)
+
+unfoldable pub childTest : List Bool → List ℕ → List ℕ → ℕ → Bool → ℕ → Bool
+childTest present transport picked t marked zero = true
+childTest present transport picked t marked (suc p) =
+    getD present p false && eqb (at transport p) t && leb 1 (at picked p) && marked
+
+-- all that is asked of a job but its order
+unfoldable pub jobTest : Jobs → List Settings → List ℕ → List ℕ → ℕ → Bool
+jobTest g settings waiting busy j =
+    countsTest (at waiting j) (at busy j) (at (g .n) j) (at (g .picked) j) (at (g .dropped) j)
+    && soldTest (getD settings (at (g .transport) j) zeroSettings .cost) (at (g .sold) j) (at (g .n) j)
+    && leb 1 (at waiting j + at busy j)
+    && childTest (g .present) (g .transport) (g .picked) (at (g .transport) j) (getD (g .preempted) j false) (at (g .parent) j)
+    && endsIn (at (g .parent)) 32 (at (g .parent) j)
+    && leb (at (g .overtakers) j) 65_535
+    && leb (at (g .turn) j) (at (g .places) j)
+
+-- Lists.
+
+unfoldable pub queueTest : List JobList → List Bool → List ℕ → ℕ → Bool
+queueTest queues present transport t =
+    leb (getD queues t zeroList .count) 32
+    && holdsEachOnce (λ j. getD present j false && eqb (at transport j) t) 32 (listOf (getD queues t zeroList))
+
+-- Destinations.
+
+unfoldable pub healthTest : ℕ → ℕ → ℕ → Health → Bool
+healthTest limit cohortlimit held (Live u) =
+    within 1 limit (u .window) && ltb (u .success) U && ltb (u .failure) U && leb (u .cohorts) (cohortlimit * U)
+healthTest limit cohortlimit held (Dead end) = eqb held 0
+
+unfoldable pub destinationTest : Setup → List Destination → List ℕ → ℕ → Bool
+destinationTest u destinations held d =
+    healthTest (getD (u .settings) (at (u .home) d) zeroSettings .limit) (getD (u .settings) (at (u .home) d) zeroSettings .cohortlimit)
+    (at held d)
+    (getD destinations d zeroDestination .health)

@@ -1,0 +1,4 @@
+pub mod Filling
+pub mod Rooms
+pub mod Lefts
+pub mod Pairs

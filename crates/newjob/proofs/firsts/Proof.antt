@@ -1,0 +1,85 @@
+-- The order of the first i, and which they are. Assumes nothing.
+use borrow.Author.Needs.{needs}
+use Prim.Native.Nat.{ℕ, _+_, _≤_, _<_, _-_}
+use mathlib.Core.Bool.{true, false}
+use mathlib.Core.Path.{_≡_, refl, sym, ap, _∙_}
+use mathlib.Core.Logic.{⊎-elim}
+use native.Mathlib.Omega.{arith}
+use lib.ListN.{length, getD}
+use borrow.Author.Tests.{not-true, not-false}
+use Rattle.laws.specs.Sequence.{padded, holds, firstsTo}
+use Rattle.laws.proofs.Firsts.{firsts-length}
+use Rattle.rules.specs.State.{at}
+use Rattle.newjob.proofs.Passes.{Seen, seen-none, seen-room, seen-new, seen-again}
+use Rattle.newjob.proofs.firsts.Statement.{statement}
+use Rattle.newjob.proofs.firsts.Tie as tie
+
+abbrev Inv-loop : tie.InvT-loop
+Inv-loop kept n seen₀ places₀ m₀ i₀ seen places m i = Seen kept seen places m i × (i ≤ n)
+
+abbrev μ-loop : tie.MeasureT-loop
+μ-loop kept n seen₀ places₀ m₀ i₀ seen places m i = n - i
+
+loop-holds : tie.Need-loop-holds Inv-loop μ-loop
+unfolding padded
+loop-holds c = (seen-none (c .args .kept .now), omega arith)
+
+element-copy-out-d : tie.Need-element-copy-out-d Inv-loop μ-loop
+element-copy-out-d c = omega arith
+
+wide-requires : tie.Need-wide-requires Inv-loop μ-loop
+wide-requires c κs = search needs
+
+array-read-if1 : tie.Need-array-read-if1 Inv-loop μ-loop
+array-read-if1 c = rw (c .wide .ensures .0) (c .before .before .before .before .pre .1 _ (c .before .before .loop-test .taken))
+
+array-write-seen : tie.Need-array-write-seen Inv-loop μ-loop
+array-write-seen c = rw (c .before .wide .ensures .0) (c .before .before .before .before .before .pre .1 _ (c .before .before .before .loop-test .taken))
+
+array-write-places : tie.Need-array-write-places Inv-loop μ-loop
+array-write-places c = seen-room (c .before .before .before .before .loop .inv .0) (λ k h. c .before .before .before .before .before .pre .1 k (omega arith)) (rw (c .before .wide .ensures .0) at (not-true (getD (c .before .before .before .before .loop .seen) (c .before .wide .result) false) (c .if1 .taken)))
+
+add-m : tie.Need-add-m Inv-loop μ-loop
+add-m c = omega (arith, seen-room (c .before .before .before .before .loop .inv .0) (λ k h. c .before .before .before .before .before .pre .1 k (omega arith)) (rw (c .before .wide .ensures .0) at (not-true (getD (c .before .before .before .before .loop .seen) (c .before .wide .result) false) (c .if1 .taken))))
+
+add-i : tie.Need-add-i Inv-loop μ-loop
+add-i c = omega arith
+
+loop-less : tie.Need-loop-less Inv-loop μ-loop
+loop-less c = omega arith
+
+loop-again : tie.Need-loop-again Inv-loop μ-loop
+loop-again c = (
+  ⊎-elim
+      (λ w. seen-new (c .before .before .before .before .loop .inv .0) (λ k h. c .before .before .before .before .before .pre .1 k (omega arith)) (rw (c .before .wide .ensures .0) at (not-true (getD (c .before .before .before .before .loop .seen) (c .before .wide .result) false) (w .0 .taken))) (rw (c .before .wide .ensures .0) at (w .1)) (w .2) (w .3))
+      (λ w. seen-again (c .before .before .before .before .loop .inv .0) (λ k h. c .before .before .before .before .before .pre .1 k (omega arith)) (rw (c .before .wide .ensures .0) at (not-false (getD (c .before .before .before .before .loop .seen) (c .before .wide .result) false) (w .0 .left))) (w .1) (w .2) (w .3))
+      (c .if1 .came),
+  omega arith,
+)
+
+cast-t21 : tie.Need-cast-t21 Inv-loop μ-loop
+cast-t21 c = omega (arith, firsts-length (c .before .before .args .kept .now) (c .before .loop .i) 32 (λ k h. c .before .before .pre .1 k (omega arith)), c .before .loop .inv .0 .count)
+
+returns : tie.Need-returns Inv-loop μ-loop
+returns c =
+    let e : c .before .loop .i ≡ c .before .before .args .n = omega arith in
+    (rw e at (c .before .loop .inv .0 .built), rw e at (c .before .loop .inv .0 .count))
+
+pub firsts-spec : {M : Type 1} → statement M
+firsts-spec =
+    tie.close
+    (tie.spec
+    Inv-loop
+    μ-loop
+    loop-holds
+    element-copy-out-d
+    wide-requires
+    array-read-if1
+    array-write-seen
+    array-write-places
+    add-m
+    add-i
+    loop-less
+    loop-again
+    cast-t21
+    returns)

@@ -1,0 +1,3 @@
+pub mod WriteLaws
+pub mod PickLaws
+pub mod PickReplies

@@ -1,0 +1,35 @@
+-- The ways that a pick can end: what the code gives there is the rules' reply.
+use Prim.Native.Nat.{ℕ, _≤_, _<_}
+use mathlib.Core.Path.{_≡_, refl}
+use mathlib.Core.Bool.{true, false}
+use mathlib.Core.List.{[]}
+use borrow.Author.Tests.{lt-ltb, le-ltb}
+use Rattle.laws.specs.Choice.{if_then_else_}
+use Rattle.rules.specs.declared.State.{State}
+use Rattle.rules.specs.Sizes.{lastSecond}
+use Rattle.rules.specs.Sound.{sound}
+use Rattle.rules.specs.Windows.{woken}
+use Rattle.rules.specs.Refusals.{badClock, pickRefusal}
+use Rattle.rules.specs.Calls.{Reply, refused, unlessRefused, pickReply, afterPick}
+use Rattle.rules.proofs.Replies.{accepting, refusing-unsound}
+
+module _ (s : State) (now : ℕ) where
+  pub pick-unsound : sound s ≡ false → record { says = refused 1; state = s; buffer = [] } ≡ pickReply s now
+  unfolding pickReply pickRefusal
+  pick-unsound h = refusing-unsound (sound s) _ s [] _ h
+
+  pub pick-early : sound s ≡ true → now < s .clock → record { says = refused 3; state = s; buffer = [] } ≡ pickReply s now
+  unfolding pickReply pickRefusal badClock unlessRefused if_then_else_
+  pick-early h l = rw (h, lt-ltb now (s .clock) l) refl
+
+  pub pick-late : sound s ≡ true → s .clock ≤ now → lastSecond < now → record { says = refused 3; state = s; buffer = [] } ≡ pickReply s now
+  unfolding pickReply pickRefusal badClock unlessRefused if_then_else_
+  pick-late h e l = rw (h, le-ltb now (s .clock) e, lt-ltb lastSecond now l) refl
+
+  pub pick-unrefused : sound s ≡ true → s .clock ≤ now → now ≤ lastSecond → pickRefusal s now ≡ 0
+  unfolding pickRefusal badClock if_then_else_
+  pick-unrefused h e l = rw (h, le-ltb now (s .clock) e, le-ltb lastSecond now l) refl
+
+  pub pick-made : (x : Reply) → pickRefusal s now ≡ 0 → x ≡ afterPick (woken s now) now → x ≡ pickReply s now
+  unfolding pickReply
+  pick-made x e h = accepting (pickRefusal s now) s [] x _ e h

@@ -1,0 +1,3 @@
+pub mod Credits
+pub mod Bests
+pub mod Preempts

@@ -1,0 +1,213 @@
+-- `choice::preemption::find_preemptor` meets its contract: each way out is a law of proofs/Preempts.antt. Assumes nothing.
+use Prim.Native.Nat.{suc, _*_, _≤_}
+use mathlib.Core.Path.{_≡_, sym, _∙_, ap, ap₂, subst}
+use mathlib.Core.Bool.{true}
+use native.Mathlib.Nat.{mul-le-mul, lt-of-le-of-lt, lt-of-lt-of-le, le-trans, le-of-lt}
+use borrow.Author.Needs.{zero≤}
+use lib.Dec.{lit<, lit≤}
+use mir.Syntax.{w64}
+use mir.Val.{toZ, ofZ}
+use mir.Facts.{toZ-ofZ}
+use borrow.Author.Tests.{not-true, not-false}
+use Rattle.rules.specs.declared.State.{State}
+use Rattle.rules.specs.State.{at, settingsOf}
+use Rattle.rules.specs.Preemption.{credit, hasCredit, owned, bestCandidate, paysFor}
+use Rattle.rules.proofs.Preemptor.{credit-owned}
+use Rattle.eligibility.specs.Eligibility.{readyIn}
+use Rattle.eligibility.specs.Eligibility.{Reads}
+use Rattle.preemption.proofs.Credits.{link-suc, index-fits, same-below, positive, sum-fits, less-by, le-by, rest-small}
+use Rattle.preemption.proofs.Preempts.{preempts-off, preempts-broke, preempts-short, preempts-none, preempts-unpaid, preempts-some, most-read}
+use Rattle.preemption.proofs.find_preemptor.Statement.{statement}
+use Rattle.preemption.proofs.find_preemptor.Tie as tie
+
+-- the credit as the code holds it
+z-is : (c : tie.After-slot-credit)
+    → toZ w64 (ofZ w64 (c .slot-credit .result))
+    ≡ credit (c .before .before .before .before .before .before .before .args .g .cost) (at (c .before .before .before .before .before .before .before .args .t1 .picked) (c .before .before .before .before .before .before .before .args .y))
+    (at (c .before .before .before .before .before .before .before .args .t1 .sold) (c .before .before .before .before .before .before .before .args .y))
+z-is c =
+    let s = c .before .before .before .before .before .before .before .args in
+    let y = c .before .before .before .before .before .wide .ensures .0 in
+    toZ-ofZ (record { sfits = c .slot-credit .ok })
+    ∙ c .slot-credit .ensures
+    ∙ ap₂ (credit (s .g .cost)) (c .before .before .before .wide16 .ensures .0 ∙ ap (at (s .t1 .picked)) y) (c .before .wide162 .ensures .0 ∙ ap (at (s .t1 .sold)) y)
+
+-- at least 1, and small
+has-it : (c : tie.Else3) → hasCredit (toZ w64 (ofZ w64 (c .before .before .before .before .before .before .slot-credit .result))) ≡ true
+has-it c = sym (c .before .before .before .before .before .has-credit .ensures) ∙ not-false (c .before .before .before .before .before .has-credit .result) (c .before .before .before .before .if2 .left)
+
+slots-small : (c : tie.After-owned-slots) → c .owned-slots .result ≤ 65536
+slots-small c =
+    let s = c .before .before .before .before .before .before .before .before .before .before .before .before .before .before .args in
+    let z = z-is (c .before .before .before .before .before .before .before) in
+    let o = credit-owned (s .g .cost) (at (s .t1 .picked) (s .y)) (at (s .t1 .sold) (s .y)) (sym (ap hasCredit z) ∙ has-it (c .before)) .1 in
+    let e : c .before .before .before .before .before .before .before .before .before .before .wide16 .result ≡ at (s .t1 .picked) (s .y) = c .before .before .before .before .before .before .before .before .before .before .wide16 .ensures .0 ∙ ap (at (s .t1 .picked)) (c .before .before .before .before .before .before .before .before .before .before .before .before .wide .ensures .0) in
+    rest-small (c .owned-slots .result) (at (s .t1 .picked) (s .y)) (s .g .cost * at (s .t1 .sold) (s .y)) (c .before .before .before .before .before .before .before .before .before .before .wide16 .result) (c .owned-slots .ensures ∙ ap owned z ∙ o) e (c .before .before .before .before .before .before .before .before .before .before .wide16 .ensures .1)
+
+best-read : (c : tie.After-best-candidate) (s : State) → s .jobs ≡ c .before .before .before .before .before .before .before .before .before .before .before .before .before .before .before .before .before .args .t1 → s .arrivals ≡ c .before .before .before .before .before .before .before .before .before .before .before .before .before .before .before .before .before .args .arrivals → settingsOf s (c .before .before .before .before .before .before .before .before .before .before .before .before .before .before .before .before .before .args .t) ≡ c .before .before .before .before .before .before .before .before .before .before .before .before .before .before .before .before .before .args .g
+    → Reads s (c .before .before .before .before .before .before .before .before .before .before .before .before .before .before .before .before .before .args .waits .now) (readyIn (c .before .before .before .before .before .before .before .before .before .before .before .before .before .before .before .before .before .args .pairs .now) (c .before .before .before .before .before .before .before .before .before .before .before .before .before .before .before .before .before .args .room .now)) → c .best-candidate .result ≡ bestCandidate s (c .before .before .before .before .before .before .before .before .before .before .before .before .before .before .before .before .before .args .time) (c .before .before .before .before .before .before .before .before .before .before .before .before .before .before .before .before .before .args .t) (c .before .before .before .before .before .before .before .before .before .before .before .before .before .before .before .before .before .args .y)
+best-read c s j a g r =
+    let x = c .before .before .before .before .before .before .before .before .before .before .before .before .before .before .before .before .before .args in
+    c .best-candidate .ensures .1 s j a r
+    (most-read s (x .t1) (x .g) (x .waits .now) (readyIn (x .pairs .now) (x .room .now)) (x .time) (x .t) (x .y) j g r (toZ w64 (ofZ w64 (c .before .before .before .before .before .before .before .before .before .before .slot-credit .result))) (z-is (c .before .before .before .before .before .before .before .before .before .before))
+    (c .before .wide164 .result) (c .before .before .before .owned-slots .result) (c .before .wide164 .ensures .0 ∙ ap (at (x .waits .now)) (c .before .before .before .before .before .before .before .before .before .before .before .before .before .before .before .wide .ensures .0)) (lt-of-lt-of-le (c .before .before .before .before .before .before .before .before .before .before .before .before .before .before .before .before .before .pre .1 .0) (lit≤ tt)) (c .before .before .before .owned-slots .ensures))
+
+-- the link's job, as the code reads it
+link-read : (c : tie.After-wide2) → c .before .before .best-candidate .result ≡ suc (c .wide2 .result)
+link-read c = link-suc (c .before .before .best-candidate .result) (c .before .if4 .left) ∙ ap suc (sym (c .wide2 .ensures .0))
+
+pays-read : (c : tie.After-pays-for)
+    → c .pays-for .result ≡ paysFor (c .before .before .before .before .before .before .before .before .before .before .before .before .before .before .before .before .before .before .before .before .before .before .args .g) (owned (toZ w64 (ofZ w64 (c .before .before .before .before .before .before .before .before .before .before .before .before .before .before .before .slot-credit .result)))) (at (c .before .before .before .before .before .before .before .before .before .before .before .before .before .before .before .before .before .before .before .before .before .before .args .waits .now) (c .before .before .before .wide2 .result))
+pays-read c = c .pays-for .ensures ∙ ap₂ (paysFor (c .before .before .before .before .before .before .before .before .before .before .before .before .before .before .before .before .before .before .before .before .before .before .args .g)) (c .before .before .before .before .before .before .before .before .owned-slots .ensures) (c .before .wide165 .ensures .0)
+
+returns : tie.Need-returns
+returns c = (zero≤, λ s j a g r. preempts-off s (c .before .args .t1) (c .before .args .g) (c .before .args .waits .now) (readyIn (c .before .args .pairs .now) (c .before .args .room .now)) (c .before .args .time) (c .before .args .t) (c .before .args .y) j g r (c .if1 .taken))
+
+wide-requires : tie.Need-wide-requires
+wide-requires c κs = tt
+
+mul-wide16 : tie.Need-mul-wide16
+mul-wide16 c = index-fits (c .wide .result) 2 (c .wide .ensures .1) (lit≤ tt)
+
+element-copy-out-wide16 : tie.Need-element-copy-out-wide16
+element-copy-out-wide16 c = same-below (c .wide .result) (c .before .before .args .y) 32 (c .wide .ensures .0) (c .before .before .pre .1 .0)
+
+wide16-requires : tie.Need-wide16-requires
+wide16-requires c κs = tt
+
+mul-wide16-2 : tie.Need-mul-wide16-2
+mul-wide16-2 c = index-fits (c .before .before .wide .result) 2 (c .before .before .wide .ensures .1) (lit≤ tt)
+
+element-copy-out-wide16-2 : tie.Need-element-copy-out-wide16-2
+element-copy-out-wide16-2 c = same-below (c .before .before .wide .result) (c .before .before .before .before .args .y) 32 (c .before .before .wide .ensures .0) (c .before .before .before .before .pre .1 .0)
+
+wide16-requires-2 : tie.Need-wide16-requires-2
+wide16-requires-2 c κs = tt
+
+slot-credit-requires : tie.Need-slot-credit-requires
+slot-credit-requires c κs = let e : c .wide162 .result ≡ at (c .before .before .before .before .before .before .args .t1 .sold) (c .before .before .before .before .before .before .args .y) = c .wide162 .ensures .0 ∙ ap (at (c .before .before .before .before .before .before .args .t1 .sold)) (c .before .before .before .before .wide .ensures .0) in
+    (subst (λ q. c .before .before .before .before .before .before .args .g .cost * q ≤ 65536) (sym e) (le-trans (c .before .before .before .before .before .before .pre .1 .5) (lit≤ tt)), le-of-lt (c .before .before .wide16 .ensures .1))
+
+has-credit-requires : tie.Need-has-credit-requires
+has-credit-requires c κs = tt
+
+returns-2 : tie.Need-returns-2
+returns-2 c = (
+  zero≤,
+  λ s j a g r. preempts-broke s (c .before .before .before .before .before .before .before .before .before .args .t1) (c .before .before .before .before .before .before .before .before .before .args .g) (c .before .before .before .before .before .before .before .before .before .args .waits .now) (readyIn (c .before .before .before .before .before .before .before .before .before .args .pairs .now) (c .before .before .before .before .before .before .before .before .before .args .room .now)) (c .before .before .before .before .before .before .before .before .before .args .time) (c .before .before .before .before .before .before .before .before .before .args .t) (c .before .before .before .before .before .before .before .before .before .args .y) j g r
+      _ (z-is (c .before .before)) (sym (c .before .has-credit .ensures) ∙ not-true (c .before .has-credit .result) (c .if2 .taken)),
+)
+
+mul-wide16-3 : tie.Need-mul-wide16-3
+mul-wide16-3 c = index-fits (c .before .before .before .before .before .before .before .wide .result) 2 (c .before .before .before .before .before .before .before .wide .ensures .1) (lit≤ tt)
+
+element-copy-out-wide16-3 : tie.Need-element-copy-out-wide16-3
+element-copy-out-wide16-3 c = same-below (c .before .before .before .before .before .before .before .wide .result) (c .before .before .before .before .before .before .before .before .before .args .y) 32 (c .before .before .before .before .before .before .before .wide .ensures .0) (c .before .before .before .before .before .before .before .before .before .pre .1 .0)
+
+wide16-requires-3 : tie.Need-wide16-requires-3
+wide16-requires-3 c κs = tt
+
+mul-if3 : tie.Need-mul-if3
+mul-if3 c = record { fits = lt-of-le-of-lt (mul-le-mul (c .before .before .before .before .before .before .before .before .before .before .before .before .pre .1 .2) (c .before .before .before .before .before .before .before .before .before .before .before .before .pre .1 .1)) (lit< tt) }
+
+returns-3 : tie.Need-returns-3
+returns-3 c = let e : c .before .before .wide163 .result ≡ at (c .before .before .before .before .before .before .before .before .before .before .before .before .before .args .t1 .n) (c .before .before .before .before .before .before .before .before .before .before .before .before .before .args .y) = c .before .before .wide163 .ensures .0 ∙ ap (at (c .before .before .before .before .before .before .before .before .before .before .before .before .before .args .t1 .n)) (c .before .before .before .before .before .before .before .before .before .before .before .wide .ensures .0) in (
+  zero≤,
+  λ s j a g r. preempts-short s (c .before .before .before .before .before .before .before .before .before .before .before .before .before .args .t1) (c .before .before .before .before .before .before .before .before .before .before .before .before .before .args .g) (c .before .before .before .before .before .before .before .before .before .before .before .before .before .args .waits .now) (readyIn (c .before .before .before .before .before .before .before .before .before .before .before .before .before .args .pairs .now) (c .before .before .before .before .before .before .before .before .before .before .before .before .before .args .room .now)) (c .before .before .before .before .before .before .before .before .before .before .before .before .before .args .time) (c .before .before .before .before .before .before .before .before .before .before .before .before .before .args .t) (c .before .before .before .before .before .before .before .before .before .before .before .before .before .args .y) j g r
+      (less-by _ _ _ e (c .if3 .taken)),
+)
+
+owned-slots-requires : tie.Need-owned-slots-requires
+owned-slots-requires c κs = has-it c
+
+mul-wide16-4 : tie.Need-mul-wide16-4
+mul-wide16-4 c = index-fits (c .before .before .before .before .before .before .before .before .before .before .before .before .wide .result) 2 (c .before .before .before .before .before .before .before .before .before .before .before .before .wide .ensures .1) (lit≤ tt)
+
+element-copy-out-wide16-4 : tie.Need-element-copy-out-wide16-4
+element-copy-out-wide16-4 c = c .before .before .before .before .before .before .before .before .before .before .before .before .wide .ensures .1
+
+wide16-requires-4 : tie.Need-wide16-requires-4
+wide16-requires-4 c κs = tt
+
+add-most : tie.Need-add-most
+add-most c = sum-fits (c .wide164 .result) (c .before .before .owned-slots .result) (c .wide164 .ensures .1) (slots-small (c .before .before))
+
+div-most : tie.Need-div-most
+div-most c = positive (c .before .before .before .before .before .before .before .before .before .before .before .before .before .before .before .before .args .g .cost) (c .before .before .before .before .before .before .before .before .before .before .before .before .before .before .before .if1 .left)
+
+best-candidate-requires : tie.Need-best-candidate-requires
+best-candidate-requires c κs = c .before .before .before .before .before .before .before .before .before .before .before .before .before .before .before .before .pre .0
+
+returns-4 : tie.Need-returns-4
+returns-4 c = (zero≤, λ s j a g r. preempts-none s (c .before .before .before .before .before .before .before .before .before .before .before .before .before .before .before .before .before .before .args .t1) (c .before .before .before .before .before .before .before .before .before .before .before .before .before .before .before .before .before .before .args .g) (c .before .before .before .before .before .before .before .before .before .before .before .before .before .before .before .before .before .before .args .waits .now) (readyIn (c .before .before .before .before .before .before .before .before .before .before .before .before .before .before .before .before .before .before .args .pairs .now) (c .before .before .before .before .before .before .before .before .before .before .before .before .before .before .before .before .before .before .args .room .now)) (c .before .before .before .before .before .before .before .before .before .before .before .before .before .before .before .before .before .before .args .time) (c .before .before .before .before .before .before .before .before .before .before .before .before .before .before .before .before .before .before .args .t) (c .before .before .before .before .before .before .before .before .before .before .before .before .before .before .before .before .before .before .args .y) j g r (c .before .best-candidate .result) (best-read (c .before) s j a g r) (c .if4 .taken))
+
+sub-wide : tie.Need-sub-wide
+sub-wide c = positive (c .before .best-candidate .result) (c .if4 .left)
+
+wide-requires-2 : tie.Need-wide-requires-2
+wide-requires-2 c κs = tt
+
+mul-m : tie.Need-mul-m
+mul-m c = index-fits (c .wide2 .result) 2 (c .wide2 .ensures .1) (lit≤ tt)
+
+element-copy-out-m : tie.Need-element-copy-out-m
+element-copy-out-m c = c .wide2 .ensures .1
+
+wide16-requires-5 : tie.Need-wide16-requires-5
+wide16-requires-5 c κs = tt
+
+pays-for-requires : tie.Need-pays-for-requires
+pays-for-requires c κs = (positive (c .before .before .before .before .before .before .before .before .before .before .before .before .before .before .before .before .before .before .before .before .before .args .g .cost) (c .before .before .before .before .before .before .before .before .before .before .before .before .before .before .before .before .before .before .before .before .if1 .left), c .before .before .before .before .before .before .before .before .before .before .before .before .before .before .before .before .before .before .before .before .before .pre .1 .3, c .before .before .before .before .before .before .before .before .before .before .before .before .before .before .before .before .before .before .before .before .before .pre .1 .4, slots-small (c .before .before .before .before .before .before .before), c .wide165 .ensures .1)
+
+returns-5 : tie.Need-returns-5
+returns-5 c = (
+  zero≤,
+  λ s j a g r. preempts-unpaid s (c .before .before .before .before .before .before .before .before .before .before .before .before .before .before .before .before .before .before .before .before .before .before .before .args .t1) (c .before .before .before .before .before .before .before .before .before .before .before .before .before .before .before .before .before .before .before .before .before .before .before .args .g) (c .before .before .before .before .before .before .before .before .before .before .before .before .before .before .before .before .before .before .before .before .before .before .before .args .waits .now) (readyIn (c .before .before .before .before .before .before .before .before .before .before .before .before .before .before .before .before .before .before .before .before .before .before .before .args .pairs .now) (c .before .before .before .before .before .before .before .before .before .before .before .before .before .before .before .before .before .before .before .before .before .before .before .args .room .now)) (c .before .before .before .before .before .before .before .before .before .before .before .before .before .before .before .before .before .before .before .before .before .before .before .args .time) (c .before .before .before .before .before .before .before .before .before .before .before .before .before .before .before .before .before .before .before .before .before .before .before .args .t) (c .before .before .before .before .before .before .before .before .before .before .before .before .before .before .before .before .before .before .before .before .before .before .before .args .y) j g r _ (z-is (c .before .before .before .before .before .before .before .before .before .before .before .before .before .before .before .before)) (c .before .before .before .before .before .before .best-candidate .result) (c .before .before .before .before .wide2 .result) (best-read (c .before .before .before .before .before .before) s j a g r) (link-read (c .before .before .before .before)) (c .before .before .before .before .wide2 .ensures .1)
+      (sym (pays-read (c .before)) ∙ not-true (c .before .pays-for .result) (c .if5 .taken)),
+)
+
+returns-6 : tie.Need-returns-6
+returns-6 c = (
+  c .before .before .before .before .before .before .best-candidate .ensures .0,
+  λ s j a g r. preempts-some s (c .before .before .before .before .before .before .before .before .before .before .before .before .before .before .before .before .before .before .before .before .before .before .before .args .t1) (c .before .before .before .before .before .before .before .before .before .before .before .before .before .before .before .before .before .before .before .before .before .before .before .args .g) (c .before .before .before .before .before .before .before .before .before .before .before .before .before .before .before .before .before .before .before .before .before .before .before .args .waits .now) (readyIn (c .before .before .before .before .before .before .before .before .before .before .before .before .before .before .before .before .before .before .before .before .before .before .before .args .pairs .now) (c .before .before .before .before .before .before .before .before .before .before .before .before .before .before .before .before .before .before .before .before .before .before .before .args .room .now)) (c .before .before .before .before .before .before .before .before .before .before .before .before .before .before .before .before .before .before .before .before .before .before .before .args .time) (c .before .before .before .before .before .before .before .before .before .before .before .before .before .before .before .before .before .before .before .before .before .before .before .args .t) (c .before .before .before .before .before .before .before .before .before .before .before .before .before .before .before .before .before .before .before .before .before .before .before .args .y) j g r (c .before .before .before .before .before .before .before .before .before .before .before .before .before .before .before .before .before .before .before .before .before .before .if1 .left) _ (z-is (c .before .before .before .before .before .before .before .before .before .before .before .before .before .before .before .before)) (has-it (c .before .before .before .before .before .before .before .before .before .before))
+      (let e : c .before .before .before .before .before .before .before .before .before .before .before .before .wide163 .result ≡ at (c .before .before .before .before .before .before .before .before .before .before .before .before .before .before .before .before .before .before .before .before .before .before .before .args .t1 .n) (c .before .before .before .before .before .before .before .before .before .before .before .before .before .before .before .before .before .before .before .before .before .before .before .args .y) = c .before .before .before .before .before .before .before .before .before .before .before .before .wide163 .ensures .0 ∙ ap (at (c .before .before .before .before .before .before .before .before .before .before .before .before .before .before .before .before .before .before .before .before .before .before .before .args .t1 .n)) (c .before .before .before .before .before .before .before .before .before .before .before .before .before .before .before .before .before .before .before .before .before .wide .ensures .0) in le-by _ _ _ e (c .before .before .before .before .before .before .before .before .before .before .if3 .left))
+      (c .before .before .before .before .before .before .best-candidate .result) (c .before .before .before .before .wide2 .result) (best-read (c .before .before .before .before .before .before) s j a g r) (link-read (c .before .before .before .before)) (c .before .before .before .before .wide2 .ensures .1)
+      (sym (pays-read (c .before)) ∙ not-false (c .before .pays-for .result) (c .if5 .left)),
+)
+
+pub find-preemptor-spec : {M : Type 1} → statement M
+find-preemptor-spec =
+    tie.close
+    (tie.spec
+    returns
+    wide-requires
+    mul-wide16
+    element-copy-out-wide16
+    wide16-requires
+    mul-wide16-2
+    element-copy-out-wide16-2
+    wide16-requires-2
+    slot-credit-requires
+    has-credit-requires
+    returns-2
+    mul-wide16-3
+    element-copy-out-wide16-3
+    wide16-requires-3
+    mul-if3
+    returns-3
+    owned-slots-requires
+    mul-wide16-4
+    element-copy-out-wide16-4
+    wide16-requires-4
+    add-most
+    div-most
+    best-candidate-requires
+    returns-4
+    sub-wide
+    wide-requires-2
+    mul-m
+    element-copy-out-m
+    wide16-requires-5
+    pays-for-requires
+    returns-5
+    returns-6)

@@ -1,0 +1,39 @@
+-- The rule, test by test. Assumes nothing.
+use Rattle.rules.specs.Setup.{windowsInRange}
+use borrow.Author.Needs.{needs}
+use Rattle.ranges.proofs.windows_in_range.Statement.{statement}
+use Rattle.ranges.proofs.windows_in_range.Tie as tie
+
+within-requires : tie.Need-within-requires
+within-requires c κs = search needs
+
+within-requires-2 : tie.Need-within-requires-2
+within-requires-2 c κs = search needs
+
+feedback-in-range-requires : tie.Need-feedback-in-range-requires
+feedback-in-range-requires c κs = search needs
+
+feedback-in-range-requires-2 : tie.Need-feedback-in-range-requires-2
+feedback-in-range-requires-2 c κs = search needs
+
+within-requires-3 : tie.Need-within-requires-3
+within-requires-3 c κs = search needs
+
+within-requires-4 : tie.Need-within-requires-4
+within-requires-4 c κs = search needs
+
+returns : tie.Need-returns
+unfolding windowsInRange
+returns c = cc
+
+pub windows-in-range-spec : {M : Type 1} → statement M
+windows-in-range-spec =
+    tie.close
+    (tie.spec
+    within-requires
+    within-requires-2
+    feedback-in-range-requires
+    feedback-in-range-requires-2
+    within-requires-3
+    within-requires-4
+    returns)

@@ -1,0 +1,3 @@
+pub mod ReportReplies
+pub mod Stayers
+pub mod ReportLaws

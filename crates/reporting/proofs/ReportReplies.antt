@@ -1,0 +1,46 @@
+-- The ways that a report can end: what the code gives there is the rules' reply.
+use Prim.Native.Nat.{ℕ, _≤_, _<_}
+use mathlib.Core.Path.{_≡_, _∙_}
+use mathlib.Core.Bool.{true, false}
+use mathlib.Core.List.{List}
+use lib.ListN.{length}
+use Rattle.rules.specs.declared.State.{State}
+use Rattle.rules.specs.declared.Outcome.{Outcome}
+use Rattle.rules.specs.Sizes.{maxEntries, lastSecond}
+use Rattle.rules.specs.State.{isBusy, destinationOf}
+use Rattle.rules.specs.Sound.{sound}
+use Rattle.rules.specs.Windows.{woken}
+use Rattle.rules.specs.Reporting.{reporting}
+use Rattle.rules.specs.Refusals.{reportRefusal}
+use Rattle.rules.specs.Calls.{Reply, refused, reportingReply, reportReply}
+use Rattle.rules.proofs.Replies.{refusing, accepting, refusing-unsound}
+use Rattle.rules.proofs.Accepted.{report-accepted}
+
+-- What a report needs: each test of its refusals has passed.
+pub record CanReport (s : State) (clock e places : ℕ) : Type 0 where
+  pub whole : sound s ≡ true
+  pub later : s .clock ≤ clock
+  pub early : clock ≤ lastSecond
+  pub inside : e < maxEntries
+  pub busy : isBusy s e ≡ true
+  pub lent : maxEntries ≤ places
+
+module _ (s : State) (now e ticket : ℕ) (outcome : Outcome) (list : List ℕ) where
+  pub report-unsound : sound s ≡ false → record { says = refused 1; state = s; buffer = list } ≡ reportReply s now e ticket outcome list
+  unfolding reportReply reportRefusal
+  report-unsound h = refusing-unsound (sound s) _ s list _ h
+
+  pub report-refused : (k : ℕ) → k ≡ reportRefusal s now e ticket list → (k ≡ 0 → ⊥)
+      → record { says = refused k; state = s; buffer = list } ≡ reportReply s now e ticket outcome list
+  unfolding reportReply
+  report-refused k q h = refusing k (reportRefusal s now e ticket list) s list _ q (λ z. h (q ∙ z))
+
+  pub report-can : reportRefusal s now e ticket list ≡ 0 → CanReport s now e (length list)
+  report-can q =
+      let a = report-accepted s now e ticket list q in
+      record { whole = a .whole; later = a .clock .later; early = a .clock .early; inside = a .entry; busy = a .busy; lent = a .lent }
+
+  pub report-made : (x : Reply) → reportRefusal s now e ticket list ≡ 0
+      → x ≡ reportingReply (reporting (woken s now) now e (destinationOf s e) outcome) list → x ≡ reportReply s now e ticket outcome list
+  unfolding reportReply
+  report-made x q h = accepting (reportRefusal s now e ticket list) s list x _ q h

@@ -1,0 +1,114 @@
+// The report: the outcome of a delivery. Document 01, "Windows". The steps on columns are the crate `leaving`; here they are joined.
+use rules::Destination;
+use rules::Outcome;
+use rules::ReportAnswer;
+use rules::ReportReply;
+use rules::State;
+ghost use mathlib.Core.Path.{_≡_};
+ghost use Rattle.rules.specs.Calls.{reportReply};
+ghost use Rattle.rules.specs.Gave.{reportGave};
+
+// The outcome of a delivery, by entry and ticket. Entries that it puts off go to the lent list; places past them stay.
+pub fn report(
+    s: State,
+    now: u64,
+    entry: u64,
+    ticket: u64,
+    outcome: Outcome,
+    list: &mut [u16],
+) -> ReportReply
+    ensures { λ r. ⌜ reportGave r (list .exit .now) ≡ reportReply s now entry ticket outcome (list .entry .now) ⌝ }
+{
+    let mut next = s;
+    let mut pairs = [0u16; 1024];
+    if !soundness::sound_with(next, &mut pairs) {
+        return ReportReply {
+            answer: ReportAnswer::Refused(1),
+            state: s,
+        };
+    }
+    let k = leaving::refusal(
+        s.clock,
+        &next.entries.kind,
+        &next.entries.ticket,
+        now,
+        entry,
+        ticket,
+        list.len(),
+    );
+    if k != 0 {
+        return ReportReply {
+            answer: ReportAnswer::Refused(k),
+            state: s,
+        };
+    }
+    next.clock = now as u32;
+
+    // the destination's step
+    let setup = s.setup;
+    let mut ds = s.destinations;
+    if window::any_due(ds, setup.destinations, now) {
+        ds = window::wake(ds, setup, now);
+    }
+    let e = entry as usize;
+    let job = s.entries.job;
+    let destination = s.entries.destination;
+    let to = destination[e];
+    let of = job[e];
+    let d = to as usize;
+    let t = setup.home[d] as usize;
+    let g = setup.settings[t];
+    let x = ds[d];
+    let before = x.health;
+    let mut busy = s.busy;
+    let many = busy.destination[d] as u64;
+    let after = leaving::step(g, many, now, before, outcome);
+    ds[d] = Destination { health: after };
+    next.destinations = ds;
+
+    // the entry is free, and those that wait are put off where the destination died
+    busy.transport[t] -= 1;
+    busy.destination[d] -= 1;
+    next.busy = busy;
+    let died = leaving::is_live(before) & !leaving::is_live(after);
+    let mut dropped = s.jobs.dropped;
+    let count = leaving::put_off(
+        &mut next.entries.kind,
+        &job,
+        &destination,
+        &mut dropped,
+        list,
+        died,
+        to,
+    );
+    columns::put_kind(&mut next.entries.kind, e, 0);
+
+    // those without an entry leave
+    let present = s.jobs.present;
+    let parent = s.jobs.parent;
+    let stays = leaving::staying(
+        &next.entries.kind,
+        &next.entries.job,
+        &pairs,
+        present,
+        died,
+        to,
+        of,
+    );
+    let adopted = leaving::adopt(&stays, &parent);
+    let mut jobs = next.jobs;
+    jobs.dropped = dropped;
+    jobs.parent = adopted;
+    jobs.present = stays;
+    next.jobs = jobs;
+    let q = next.queues[t];
+    let queue = lists::keep(q, &stays);
+    next.queues[t] = queue;
+    let a = s.arrivals;
+    let arrivals = lists::keep(a, &stays);
+    next.arrivals = arrivals;
+    ReportReply {
+        answer: ReportAnswer::Reported(count),
+        state: next,
+    }
+}

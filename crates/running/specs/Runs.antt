@@ -1,0 +1,83 @@
+-- What `run` gives back: the rules' replies to the calls that it was handed, laid out as `Layout.antt` says, and demand 3 of these calls.
+use Prim.Native.Nat.{ℕ}
+use mathlib.Core.Path.{_≡_}
+use mathlib.Core.Bool.{true}
+use mathlib.Core.List.{List, [], _∷_, _++_}
+use lib.ListN.{length}
+use Rattle.laws.specs.Choice.{if_then_else_}
+use Rattle.rules.specs.declared.Setup.{Setup}
+use Rattle.rules.specs.declared.State.{State}
+use Rattle.rules.specs.Setup.{setupInRange, freshState}
+use Rattle.rules.specs.Calls.{Reply, Call, job, pick, report, ask, board, written, replyTo}
+use Rattle.rules.specs.Demand3.{Demand3, Companions}
+use Rattle.running.specs.declared.RunAnswer.{RunAnswer}
+use Rattle.running.specs.declared.RunEnd.{RunEnd}
+use Rattle.running.specs.Layout.{answerRow, Reading, reading}
+
+-- what each reply adds, one behind the other, where each call is handed the state as the one before left it
+unfoldable pub gathered : (Call → Reply → List ℕ) → State → List Call → List ℕ
+gathered f s [] = []
+gathered f s (call ∷ calls) = f call (replyTo s call) ++ gathered f (replyTo s call .state) calls
+
+abbrev pub rowOf : Call → Reply → List ℕ
+rowOf call r = answerRow (r .says)
+
+-- the closing contents of the put-off list, and of the board's buffer, where the call was lent one
+unfoldable pub listOf : Call → Reply → List ℕ
+listOf (job now t dests list) r = r .buffer
+listOf (pick now) r = []
+listOf (report now e ticket outcome list) r = r .buffer
+listOf (ask j) r = []
+listOf (board buffer) r = []
+
+unfoldable pub textOf : Call → Reply → List ℕ
+textOf (job now t dests list) r = []
+textOf (pick now) r = []
+textOf (report now e ticket outcome list) r = []
+textOf (ask j) r = []
+textOf (board buffer) r = r .buffer
+
+-- how many calls were run, why it ended (0: the set-up was refused), and what the three slices hold at the end
+pub record Ran : Type 0 where
+  pub calls : ℕ
+  pub end : ℕ
+  pub answers : List ℕ
+  pub lists : List ℕ
+  pub texts : List ℕ
+
+abbrev pub callsRead : List ℕ → List ℕ → List ℕ → List ℕ → Reading
+callsRead words answers lists texts = reading (length words) words (length answers) lists texts
+
+-- from a state; what lies past the written places is untouched
+unfoldable pub ranFrom : State → Reading → List ℕ → List ℕ → List ℕ → Ran
+ranFrom s r answers lists texts =
+    record {
+      calls = length (r .calls);
+      end = r .end;
+      answers = written (gathered rowOf s (r .calls)) answers;
+      lists = written (gathered listOf s (r .calls)) lists;
+      texts = written (gathered textOf s (r .calls)) texts;
+    }
+
+-- "A refused set-up runs nothing"
+unfoldable pub runReply : Setup → List ℕ → List ℕ → List ℕ → List ℕ → Ran
+runReply u words answers lists texts =
+    if setupInRange u
+    then ranFrom (freshState u) (callsRead words answers lists texts) answers lists texts
+    else record { calls = 0; end = 0; answers = answers; lists = lists; texts = texts }
+
+-- the number of each end
+abbrev pub endNumber : RunEnd → ℕ
+endNumber RunEnd.Refused = 0
+endNumber RunEnd.Whole = 1
+endNumber RunEnd.Short = 2
+endNumber RunEnd.Unknown = 3
+endNumber RunEnd.NoRoom = 4
+
+abbrev pub runGave : RunAnswer → List ℕ → List ℕ → List ℕ → Ran
+runGave r answers lists texts =
+    record { calls = r .calls; end = endNumber (r .end); answers = answers; lists = lists; texts = texts }
+
+-- demand 3 with its companions, of the calls that were run
+abbrev pub Demand3OfRun : Setup → List Call → Type 0
+Demand3OfRun u calls = setupInRange u ≡ true → Demand3 u calls × Companions u calls
