@@ -133,7 +133,7 @@ pub fn refusal(s: State, now: u64, t: u64, dests: &[u64], places: usize) -> u8
         return 6;
     }
     let before = s.destinations;
-    let ds = window::wake(before, u, now);
+    let ds = waking::wake(before, u, now);
     let dead = dead_table(ds);
     let n = count_kept(dests, &dead);
     let g = s.jobs;

@@ -14,7 +14,7 @@ use Rattle.rules.specs.declared.Destination.{Destination}
 use Rattle.rules.specs.declared.State.{State}
 use Rattle.rules.specs.State.{at, zeroDestination}
 use Rattle.rules.specs.Board.{decimal, healthText, clockLine, destinationLine, boardText}
-use Rattle.board.proofs.Decimals.{decimal-length}
+use Rattle.writing.proofs.Decimals.{decimal-length}
 use Rattle.board.specs.Text.{liveText, deadText}
 use Rattle.rules.specs.Board.{linesOf, textOf}
 use Rattle.laws.specs.Wrote.{Wrote}

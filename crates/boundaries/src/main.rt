@@ -17,14 +17,13 @@
 // Empty lines and lines that begin with '#' are written as they are.
 ghost use Prim.Native.Nat.{_≤_};
 ghost use lib.ListN.{length};
+use calling::Reply;
 use cases::change;
 use cases::lent;
 use cases::reading;
 use libc::STDIN_FILENO;
 use libc::STDOUT_FILENO;
 use lines::answer;
-use lines::calls;
-use lines::calls::Reply;
 use lines::text;
 use rules::Outcome;
 use rules::PickAnswer;
@@ -52,7 +51,7 @@ fn main() {
 
 fn run(cases: &mut [u8], words: &mut [u64], list: &mut [u16], written: &mut [u8], out: &mut [u8]) {
     let n = io::read_full(STDIN_FILENO, cases);
-    let zeros = calls::no_state();
+    let zeros = calling::no_state();
     let mut desk = Desk {
         state: zeros,
         kept: zeros,
@@ -119,7 +118,7 @@ fn times(
     out: &mut [u8],
     s: State,
 ) -> Reply {
-    let mut r = calls::left(s, 0);
+    let mut r = calling::left(s, 0);
     let mut left = count;
     while 0 < left {
         r = once(line, words, list, written, out, r.state);
@@ -146,7 +145,7 @@ fn once(
     let k = got.count;
     if !reading::fits(got.whole, kind, k) {
         let m = answer::malformed(out);
-        return calls::left(s, m);
+        return calling::left(s, m);
     }
     if kind != 0 {
         let a = text::word(words, 0);
@@ -168,11 +167,11 @@ fn looking(
 ) -> Reply {
     if kind == 1 {
         let n = lent::put_places(out, list, a, b);
-        return calls::left(s, n);
+        return calling::left(s, n);
     }
     if kind == 2 {
         let n = lent::put_bytes(out, written, a, b);
-        return calls::left(s, n);
+        return calling::left(s, n);
     }
     sequence(a, b, list, out, s)
 }
@@ -191,7 +190,7 @@ fn calling(
 {
     let m = lent::spread(name, words, k);
     lent::fill(list, written);
-    calls::call(name, &words[..m], list, written, out, s)
+    calling::call(name, &words[..m], list, written, out, s)
 }
 
 // What stands behind the name: a field and its numbers.
@@ -203,11 +202,11 @@ fn changing(kind: u8, rest: &[u8], words: &mut [u64], out: &mut [u8], s: State) 
     let k = got.count;
     if !got.whole {
         let m = answer::malformed(out);
-        return calls::left(s, m);
+        return calling::left(s, m);
     }
     if !change::is_field(&rest[from..to]) {
         let m = answer::malformed(out);
-        return calls::left(s, m);
+        return calling::left(s, m);
     }
     let next = change::changed(&rest[from..to], &words[..k], s);
     after_change(kind, out, s, next)
@@ -215,15 +214,15 @@ fn changing(kind: u8, rest: &[u8], words: &mut [u64], out: &mut [u8], s: State) 
 
 fn after_change(kind: u8, out: &mut [u8], s: State, next: State) -> Reply {
     if kind == 4 {
-        return calls::left(next, 0);
+        return calling::left(next, 0);
     }
     if kind == 5 {
         let a = scheduler::ask(next, 0);
         let n = answer::ask(out, a);
-        return calls::left(s, n);
+        return calling::left(s, n);
     }
-    let r = calls::start(next.setup, out);
-    calls::left(s, r.length)
+    let r = calling::start(next.setup, out);
+    calling::left(s, r.length)
 }
 
 // Stops early where nothing is picked.
@@ -257,5 +256,5 @@ fn sequence(now: u64, count: u64, list: &mut [u16], out: &mut [u8], s: State) ->
         left -= 1;
     }
     let n = answer::put_byte(out, at, 10);
-    calls::left(state, n)
+    calling::left(state, n)
 }

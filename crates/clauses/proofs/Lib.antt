@@ -1,4 +1,2 @@
 pub mod JobLaws
-pub mod ListLaws
-pub mod OrderLaws
 pub mod Ranges

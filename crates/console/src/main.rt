@@ -4,7 +4,6 @@ ghost use Prim.Native.Nat.{_+_, _≤_, _<_};
 ghost use lib.ListN.{length};
 use libc::STDIN_FILENO;
 use lines::answer;
-use lines::calls;
 use lines::text;
 use rules::State;
 
@@ -22,7 +21,7 @@ fn main() {
 fn run(line: &mut [u8], words: &mut [u64])
     requires { ⌜ 0 < length (now line) ⌝ }
 {
-    let mut state = calls::no_state();
+    let mut state = calling::no_state();
     let mut h = none(0);
     // no place before this one holds a line end
     let mut seen: usize = 0;
@@ -71,7 +70,7 @@ fn answered(line: &[u8], words: &mut [u64], mode: u8, s: State) -> State {
     let mut out_space = [0u8; 8192];
     let out: &mut [u8] = &mut out_space;
     if mode == 0 {
-        let r = calls::answer_line(line, words, list, written, out, s);
+        let r = calling::answer_line(line, words, list, written, out, s);
         answer::write(out, r.length);
         return r.state;
     }

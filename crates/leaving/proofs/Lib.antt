@@ -1,4 +1,1 @@
 pub mod Marks
-pub mod PutOffLaws
-pub mod Steps
-pub mod RefusalLaws

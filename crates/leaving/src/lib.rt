@@ -1,74 +1,14 @@
-// Document 01, "Windows", last part: the steps of a report of a sound state, and its refusal.
+// Document 01, "Every job then without a waiting or busy entry leaves": who stays after a report, and who adopts the children of those that leave.
 use columns::wide;
-use columns::wide32;
-use rules::Health;
-use rules::Outcome;
-use rules::Settings;
 ghost use mathlib.Core.Path.{_≡_};
 ghost use mathlib.Core.Bool.{true, false};
-ghost use mathlib.Core.List.{List};
-ghost use Prim.Native.Nat.{ℕ, _≤_, _<_};
-ghost use lib.ListN.{length, getD, set};
+ghost use Prim.Native.Nat.{ℕ, _<_};
+ghost use lib.ListN.{getD};
 ghost use lib.Dec.{eqb};
 ghost use Rattle.laws.specs.Range.{anyTo, tableTo};
-ghost use Rattle.rules.specs.declared.State.{State};
-ghost use Rattle.rules.specs.State.{at, isLive};
-ghost use Rattle.rules.specs.Setup.{settingsInRange};
-ghost use Rattle.rules.specs.Refusals.{reportRefusal};
-ghost use Rattle.window.specs.Fits.{healthFits};
+ghost use Rattle.rules.specs.State.{at};
 ghost use Rattle.charging.specs.Links.{leadsInside};
-ghost use Rattle.leaving.specs.Leaving.{stepped, usedAt, staysAt, elsewhere, emptied, OthersStay, nearestOf, adoptedAt, CanPutOff, PutOff, HasColumns};
-
-// The destination after this outcome; busy still counts this delivery.
-pub fn step(g: Settings, busy: u64, now: u64, h: Health, outcome: Outcome) -> Health
-    requires { ⌜ (settingsInRange g ≡ true) × (healthFits g h ≡ true) × (busy ≤ 512) × (now ≤ 4294967295) ⌝ }
-    ensures { λ r. ⌜ r ≡ stepped g busy now h outcome ⌝ }
-{
-    match outcome {
-        Outcome::Success => window::after_success(g, busy, h),
-        Outcome::Failure => window::after_failure(g, now, h),
-    }
-}
-
-pub fn is_live(h: Health) -> bool
-    ensures { λ r. ⌜ r ≡ isLive h ⌝ }
-{
-    match h {
-        Health::Live(_) => true,
-        Health::Dead(_) => false,
-    }
-}
-
-// The waiting entries of a destination that died are put off: free, in the list with numbers rising, counted as dropped. Their number.
-pub fn put_off<'a>(
-    kind: &mut [u8; 512],
-    job: &'a [u8; 512],
-    destination: &'a [u8; 512],
-    dropped: &mut [u16; 32],
-    list: &mut [u16],
-    died: bool,
-    d: u8,
-) -> u16
-    requires { ⌜ CanPutOff (now kind) (now job) (now dropped) (now list) ⌝ }
-    ensures { λ r. ⌜ PutOff died d (now (kind .entry)) (now (job .entry)) (now (destination .entry)) (now (dropped .entry)) (now (list .entry)) (now (kind .exit)) (now (dropped .exit)) (now (list .exit)) r ⌝ }
-{
-    if !died {
-        return 0;
-    }
-    let mut m: usize = 0;
-    let mut i: usize = 0;
-    while i < 512 {
-        if (kind[i] == 1) & (destination[i] == d) {
-            let j = wide(job[i]);
-            dropped[j] += 1;
-            list[m] = i as u16;
-            kind[i] = 0;
-            m += 1;
-        }
-        i += 1;
-    }
-    m as u16
-}
+ghost use Rattle.leaving.specs.Leaving.{usedAt, staysAt, elsewhere, emptied, OthersStay, nearestOf, adoptedAt};
 
 // Whether job j has a waiting or busy entry.
 fn has_entry<'a>(kind: &'a [u8; 512], job: &'a [u8; 512], j: u8) -> bool
@@ -194,36 +134,4 @@ pub fn adopt(stays: &[bool; 32], parent: &[u8; 32]) -> [u8; 32]
         j += 1;
     }
     next
-}
-
-// The refusal of a report to a sound state with this clock and these columns, 0 for none.
-pub fn refusal<'a>(
-    last: u32,
-    kind: &'a [u8; 512],
-    tickets: &'a [u32; 512],
-    clock: u64,
-    entry: u64,
-    ticket: u64,
-    places: usize,
-) -> u8
-    ensures { λ r. ⌜ ((s : State) → HasColumns s last (now (kind .entry)) (now (tickets .entry)) → (list : List ℕ) → length list ≡ places → r ≡ reportRefusal s clock entry ticket list) ⌝ }
-{
-    if (clock < last as u64) | (4294967295 < clock) {
-        return 3;
-    }
-    if 512 <= entry {
-        return 9; // there is no such entry
-    }
-    let e = entry as usize;
-    if kind[e] != 2 {
-        return 9; // it is not busy
-    }
-    let issued = wide32(tickets[e]);
-    if issued != ticket {
-        return 9; // it is busy with another
-    }
-    if places < 512 {
-        return 10;
-    }
-    0
 }

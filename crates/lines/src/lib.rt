@@ -1,5 +1,4 @@
-// A call as a line of text, and its answer as one: a word, then decimal numbers, parted by blanks.
+// A line of text: its words read as numbers and as a set-up, and an answer put into one.
 pub mod answer;
-pub mod calls;
 pub mod setups;
 pub mod text;

@@ -41,9 +41,9 @@ pub fn pick(s: State, now: u64) -> PickReply
     }
     next.clock = now as u32;
     let old = s.destinations;
-    if window::any_due(old, s.setup.destinations, now) {
+    if waking::any_due(old, s.setup.destinations, now) {
         let u = s.setup;
-        let ds = window::wake(old, u, now);
+        let ds = waking::wake(old, u, now);
         next.destinations = ds;
     }
     let c = choice::choose(next, now, &pairs);

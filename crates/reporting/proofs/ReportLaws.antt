@@ -42,7 +42,8 @@ use Rattle.window.specs.Fits.{healthFits}
 use Rattle.charging.specs.Links.{leadsInside}
 use Rattle.charging.proofs.Leads.{leads-present}
 use Rattle.rules.proofs.KeptPreempting.{parent-present}
-use Rattle.leaving.specs.Leaving.{stepped, staysAt, adoptedAt, CanPutOff, PutOff}
+use Rattle.settling.specs.Settling.{stepped, CanPutOff, PutOff}
+use Rattle.leaving.specs.Leaving.{staysAt, adoptedAt}
 use Rattle.reporting.proofs.ReportReplies.{CanReport}
 
 fits-of : (g : Settings) (h : Health) → ((u : Sums) → h ≡ Live u → LiveSound g u) → healthFits g h ≡ true

@@ -21,7 +21,8 @@ use Rattle.rules.proofs.EntryTests.{busy-used}
 use Rattle.rules.proofs.EntryFacts.{waiting-used}
 use Rattle.rules.proofs.Soundness.{sound-facts}
 use Rattle.counting.specs.Counting.{tallyTo, Paired}
-use Rattle.leaving.specs.Leaving.{putOffAt, usedAt, elsewhere, emptied, OthersStay, PutOff}
+use Rattle.settling.specs.Settling.{putOffAt, PutOff}
+use Rattle.leaving.specs.Leaving.{usedAt, elsewhere, emptied, OthersStay}
 use Rattle.reporting.proofs.ReportReplies.{CanReport}
 
 module _ (s : State) (clock e places : ℕ) (can : CanReport s clock e places) where

@@ -27,7 +27,7 @@ pub fn report(
             state: s,
         };
     }
-    let k = leaving::refusal(
+    let k = settling::refusal(
         s.clock,
         &next.entries.kind,
         &next.entries.ticket,
@@ -47,8 +47,8 @@ pub fn report(
     // the destination's step
     let setup = s.setup;
     let mut ds = s.destinations;
-    if window::any_due(ds, setup.destinations, now) {
-        ds = window::wake(ds, setup, now);
+    if waking::any_due(ds, setup.destinations, now) {
+        ds = waking::wake(ds, setup, now);
     }
     let e = entry as usize;
     let job = s.entries.job;
@@ -62,7 +62,7 @@ pub fn report(
     let before = x.health;
     let mut busy = s.busy;
     let many = busy.destination[d] as u64;
-    let after = leaving::step(g, many, now, before, outcome);
+    let after = settling::step(g, many, now, before, outcome);
     ds[d] = Destination { health: after };
     next.destinations = ds;
 
@@ -70,9 +70,9 @@ pub fn report(
     busy.transport[t] -= 1;
     busy.destination[d] -= 1;
     next.busy = busy;
-    let died = leaving::is_live(before) & !leaving::is_live(after);
+    let died = settling::is_live(before) & !settling::is_live(after);
     let mut dropped = s.jobs.dropped;
-    let count = leaving::put_off(
+    let count = settling::put_off(
         &mut next.entries.kind,
         &job,
         &destination,

@@ -12,9 +12,9 @@ use Rattle.rules.specs.Calls.{Reply, Call, replyTo}
 use Rattle.rules.specs.Run.{stateFrom}
 use Rattle.laws.specs.Wrote.{Wrote}
 use Rattle.laws.proofs.Writing.{wrote-length, back-is, beside}
-use Rattle.running.specs.Layout.{sizeOf, listPlaces, textPlaces, callOf, rowLength, endBefore, Reading, thenRead, reading}
+use Rattle.layout.specs.Layout.{sizeOf, listPlaces, textPlaces, callOf, rowLength, endBefore, Reading, thenRead, reading}
 use Rattle.running.specs.Runs.{gathered}
-use Rattle.running.proofs.LayoutLaws.{end-none}
+use Rattle.layout.proofs.LayoutLaws.{end-none}
 
 -- One call more at the end.
 

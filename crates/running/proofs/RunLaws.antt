@@ -12,10 +12,11 @@ use Rattle.rules.specs.Calls.{Call}
 use Rattle.rules.specs.Run.{stateFrom}
 use Rattle.laws.specs.Wrote.{Wrote}
 use Rattle.laws.proofs.Writing.{wrote-none}
-use Rattle.running.specs.Layout.{word, headOf, sizeOf, listPlaces, textPlaces, callOf, rowLength, endBefore, reading}
-use Rattle.running.specs.Runs.{gathered, rowOf, listOf, textOf, Ran, callsRead, ranFrom}
-use Rattle.running.specs.Making.{Lent, Answered}
-use Rattle.running.proofs.LayoutLaws.{nonzero, size-is, end-most, Ahead, ahead-of}
+use Rattle.layout.specs.Layout.{word, headOf, sizeOf, listPlaces, textPlaces, callOf, rowLength, endBefore, reading}
+use Rattle.running.specs.Runs.{gathered, rowOf, Ran, callsRead, ranFrom}
+use Rattle.layout.specs.Layout.{listOf, textOf}
+use Rattle.making.specs.Making.{Lent, Answered}
+use Rattle.layout.proofs.LayoutLaws.{nonzero, size-is, end-most, Ahead, ahead-of}
 use Rattle.running.proofs.ReadingLaws.{state-more, wrote-more, reading-ends, behind, reading-goes, same-reading, same-length, untouched, part-length, rest-whole}
 
 -- What is so at the head of each turn. A run starts from s with these slices; `at` numbers are read, and the first `row`, `listed` and `told`

@@ -8,11 +8,11 @@ use Rattle.laws.specs.Choice.{if_then_else_}
 use Rattle.rules.specs.declared.Setup.{Setup}
 use Rattle.rules.specs.declared.State.{State}
 use Rattle.rules.specs.Setup.{setupInRange, freshState}
-use Rattle.rules.specs.Calls.{Reply, Call, job, pick, report, ask, board, written, replyTo}
+use Rattle.rules.specs.Calls.{Reply, Call, written, replyTo}
 use Rattle.rules.specs.Demand3.{Demand3, Companions}
 use Rattle.running.specs.declared.RunAnswer.{RunAnswer}
 use Rattle.running.specs.declared.RunEnd.{RunEnd}
-use Rattle.running.specs.Layout.{answerRow, Reading, reading}
+use Rattle.layout.specs.Layout.{answerRow, listOf, textOf, Reading, reading}
 
 -- what each reply adds, one behind the other, where each call is handed the state as the one before left it
 unfoldable pub gathered : (Call → Reply → List ℕ) → State → List Call → List ℕ
@@ -21,21 +21,6 @@ gathered f s (call ∷ calls) = f call (replyTo s call) ++ gathered f (replyTo s
 
 abbrev pub rowOf : Call → Reply → List ℕ
 rowOf call r = answerRow (r .says)
-
--- the closing contents of the put-off list, and of the board's buffer, where the call was lent one
-unfoldable pub listOf : Call → Reply → List ℕ
-listOf (job now t dests list) r = r .buffer
-listOf (pick now) r = []
-listOf (report now e ticket outcome list) r = r .buffer
-listOf (ask j) r = []
-listOf (board buffer) r = []
-
-unfoldable pub textOf : Call → Reply → List ℕ
-textOf (job now t dests list) r = []
-textOf (pick now) r = []
-textOf (report now e ticket outcome list) r = []
-textOf (ask j) r = []
-textOf (board buffer) r = r .buffer
 
 -- how many calls were run, why it ended (0: the set-up was refused), and what the three slices hold at the end
 pub record Ran : Type 0 where

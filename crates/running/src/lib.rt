@@ -1,10 +1,5 @@
-// `run`: a list of calls, read from numbers and made one after another. The layout of the lists is specs/Layout.antt, and as a table docs/RUN.md.
-mod layout;
-mod making;
-mod rows;
-
+// `run`: a list of calls, read from numbers and made one after another. The layout of the lists is the crate `layout`, and as a table docs/RUN.md.
 use layout::end_before;
-use layout::end_of;
 use layout::list_places;
 use layout::size_of;
 use layout::text_places;
@@ -13,7 +8,8 @@ use rules::Setup;
 use rules::SetupAnswer;
 use rules::State;
 ghost use mathlib.Core.Path.{_≡_};
-ghost use Rattle.running.specs.Runs.{runGave, ranFrom, runReply, callsRead, Demand3OfRun};
+ghost use Prim.Native.Nat.{_≤_, _<_};
+ghost use Rattle.running.specs.Runs.{runGave, endNumber, ranFrom, runReply, callsRead, Demand3OfRun};
 
 // Why a run ended: the set-up was refused, the list of calls came to its end, it is cut short within a call, a kind of
 // call is unknown, or a slice has no room for the next answer or its buffer.
@@ -28,6 +24,23 @@ pub enum RunEnd {
 pub struct RunAnswer {
     pub calls: u64,
     pub end: RunEnd,
+}
+
+// The end of that number.
+fn end_of(k: u8) -> RunEnd
+    requires { ⌜ (0 < k) × (k ≤ 4) ⌝ }
+    ensures { λ r. ⌜ endNumber r ≡ k ⌝ }
+{
+    if k == 1 {
+        return RunEnd::Whole;
+    }
+    if k == 2 {
+        return RunEnd::Short;
+    }
+    if k == 3 {
+        return RunEnd::Unknown;
+    }
+    RunEnd::NoRoom
 }
 
 // Makes call after call from a state, each with the state that the one before left.

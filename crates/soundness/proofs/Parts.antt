@@ -27,9 +27,11 @@ use Rattle.rules.specs.SoundFacts.{EntrySound, ChildOf, DestinationSound}
 use Rattle.rules.proofs.RangeFacts.{within-of, implies-of, in-range-of}
 use Rattle.rules.proofs.Soundness.{sound-facts}
 use Rattle.counting.specs.declared.Tally.{Tally}
-use Rattle.clauses.specs.Clauses.{orderList, distinct, orderTest, countsTest, soldTest, childTest, jobTest}
+use Rattle.listing.specs.Listing.{orderList, distinct, orderTest}
+use Rattle.clauses.specs.Clauses.{countsTest, soldTest, childTest, jobTest}
 use Rattle.counting.specs.Counting.{belongsAt, belongsTest, entryTest, Tables}
-use Rattle.clauses.specs.Clauses.{queueTest, healthTest, destinationTest}
+use Rattle.listing.specs.Listing.{queueTest}
+use Rattle.clauses.specs.Clauses.{healthTest, destinationTest}
 use Rattle.soundness.proofs.Counted.{columnsOf, waiting-is, busy-is, held-is, to-is, on-is}
 
 module _ (s : State) where

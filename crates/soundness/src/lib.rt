@@ -2,9 +2,9 @@
 use clauses::busy;
 use clauses::destinations;
 use clauses::jobs;
-use clauses::orders;
-use clauses::queues;
 use columns::wide;
+use listing::orders;
+use listing::queues;
 use rules::State;
 ghost use mathlib.Core.Path.{_≡_};
 ghost use mathlib.Core.Bool.{true};

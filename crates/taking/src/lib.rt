@@ -25,7 +25,7 @@ pub fn take(s: State, now: u64, t: u64, dests: &[u64], list: &mut [u16]) -> JobR
 {
     let u = s.setup;
     let before = s.destinations;
-    let ds = window::wake(before, u, now);
+    let ds = waking::wake(before, u, now);
     let dead = dead_table(ds);
     let parts = split(dests, &dead, list);
     let n = parts.n as usize;

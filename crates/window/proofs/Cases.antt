@@ -11,8 +11,7 @@ use Rattle.rules.specs.declared.Health.{Health}
 use Rattle.rules.specs.declared.Health.the-variants.{Live, Dead}
 use Rattle.rules.specs.Sizes.{U}
 use Rattle.rules.specs.Setup.{firstState}
-use Rattle.window.specs.Waking.{isDue}
-use Rattle.rules.specs.Windows.{feedback, cohortShare, isDeadAt, raised, liveAfterSuccess, afterSuccess, lowered, liveAfterFailure, afterFailure, wokenHealth}
+use Rattle.rules.specs.Windows.{feedback, cohortShare, isDeadAt, raised, liveAfterSuccess, afterSuccess, lowered, liveAfterFailure, afterFailure}
 
 abbrev pub sums : ℕ → ℕ → ℕ → ℕ → Sums
 sums window success failure cohorts = record { window = window; success = success; failure = failure; cohorts = cohorts }
@@ -64,23 +63,3 @@ failure-live g now h r u b e k l = rw (e, ← k) l
 pub failure-dead : (g : Settings) (now : ℕ) (h : Health) (end : ℕ) → h ≡ Dead end → Dead end ≡ afterFailure g now h
 unfolding afterFailure
 failure-dead g now h end e = rw e
-
-pub woken-live : (g : Settings) (now : ℕ) (h : Health) (u : Sums) → h ≡ Live u → Live u ≡ wokenHealth g now h
-unfolding wokenHealth
-woken-live g now h u e = rw e
-
-pub woken-due : (g : Settings) (now : ℕ) (h : Health) (end : ℕ) (r : Sums) → h ≡ Dead end → end ≤ now → r ≡ firstState g → Live r ≡ wokenHealth g now h
-unfolding wokenHealth if_then_else_
-woken-due g now h end r e l k = rw (e, le-leb end now l, k)
-
-pub woken-later : (g : Settings) (now : ℕ) (h : Health) (end : ℕ) → h ≡ Dead end → now < end → Dead end ≡ wokenHealth g now h
-unfolding wokenHealth if_then_else_
-woken-later g now h end e l = rw (e, lt-leb end now l)
-
-pub due-live : (h : Health) (u : Sums) (now : ℕ) → h ≡ Live u → false ≡ isDue h now
-unfolding isDue
-due-live h u now e = rw e
-
-pub due-dead : (h : Health) (end now : ℕ) → h ≡ Dead end → leb end now ≡ isDue h now
-unfolding isDue
-due-dead h end now e = rw e

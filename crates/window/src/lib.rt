@@ -1,22 +1,17 @@
-// Document 01, "Windows", and the waking of "Time and tickets".
-use rules::Destination;
+// Document 01, "Windows": a destination's first state, and its step after a success or a failure.
 use rules::Feedback;
 use rules::Health;
 use rules::Settings;
-use rules::Setup;
 use rules::Sums;
 ghost use mathlib.Core.Path.{_≡_};
 ghost use mathlib.Core.Bool.{true};
 ghost use Prim.Native.Nat.{_≤_, _<_, min, max};
 ghost use Rattle.rules.specs.Sizes.{U};
-ghost use Rattle.rules.specs.Setup.{feedbackInRange, settingsInRange, setupInRange, firstState};
+ghost use Rattle.rules.specs.Setup.{feedbackInRange, settingsInRange, firstState};
 ghost use Rattle.rules.specs.Windows.{feedback, cohortShare, raised, liveAfterSuccess, afterSuccess};
-ghost use Rattle.rules.specs.Windows.{lowered, liveAfterFailure, afterFailure, wokenHealth};
+ghost use Rattle.rules.specs.Windows.{lowered, liveAfterFailure, afterFailure};
 ghost use Rattle.window.specs.Fits.{healthFits};
 ghost use Rattle.rules.specs.Sound.{sumsFit};
-ghost use Rattle.window.specs.Waking.{isDue, dueAt};
-ghost use Rattle.rules.specs.Windows.{wokenAt};
-ghost use Rattle.laws.specs.Range.{anyTo, tableTo};
 
 // The parts that stand for 1.
 const U: u64 = 23_279_256_000;
@@ -162,71 +157,4 @@ pub fn after_failure(g: Settings, now: u64, h: Health) -> Health
         }
         Health::Dead(end) => Health::Dead(end),
     }
-}
-
-// A dead destination whose suspension ends at or before now is in its first state; any other is as it was.
-pub fn woken_health(g: Settings, now: u64, h: Health) -> Health
-    ensures { λ r. ⌜ r ≡ wokenHealth g now h ⌝ }
-{
-    match h {
-        Health::Live(u) => Health::Live(u),
-        Health::Dead(end) => {
-            if end <= now {
-                Health::Live(first_state(g))
-            } else {
-                Health::Dead(end)
-            }
-        }
-    }
-}
-
-// A dead destination whose suspension ends at or before now.
-fn is_due(h: Health, now: u64) -> bool
-    ensures { λ r. ⌜ r ≡ isDue h now ⌝ }
-{
-    match h {
-        Health::Live(_) => false,
-        Health::Dead(end) => end <= now,
-    }
-}
-
-// Whether any of the first `count` destinations is due. Where none is, waking leaves all as they are (`none-due` of proofs/).
-pub fn any_due(ds: [Destination; 32], count: u64, now: u64) -> bool
-    requires { ⌜ count ≤ 32 ⌝ }
-    ensures { λ r. ⌜ r ≡ anyTo (dueAt ds now) count ⌝ }
-{
-    let n = count as usize;
-    let mut any = false;
-    let mut i: usize = 0;
-    while i < n {
-        let x = ds[i];
-        let h = x.health;
-        any = any | is_due(h, now);
-        i += 1;
-    }
-    any
-}
-
-// All destinations of a set-up in range, woken. Of a state's own this is `woken s now .destinations` (`woken-is` of proofs/).
-// Only what wakes is written.
-pub fn wake(ds: [Destination; 32], u: Setup, now: u64) -> [Destination; 32]
-    requires { ⌜ setupInRange u ≡ true ⌝ }
-    ensures { λ r. ⌜ r ≡ tableTo (wokenAt ds u now) 32 ⌝ }
-{
-    let mut next = ds;
-    let count = u.destinations as usize;
-    let mut d: usize = 0;
-    while d < count {
-        let x = ds[d];
-        let h = x.health;
-        if is_due(h, now) {
-            let t = u.home[d] as usize;
-            let g = u.settings[t];
-            next[d] = Destination {
-                health: Health::Live(first_state(g)),
-            };
-        }
-        d += 1;
-    }
-    next
 }

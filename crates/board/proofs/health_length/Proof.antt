@@ -1,6 +1,6 @@
 -- The parts add up, in each case. Assumes nothing.
 use native.Mathlib.Omega.{arith}
-use Rattle.board.proofs.Decimals.{digits-high}
+use Rattle.writing.proofs.Decimals.{digits-high}
 use Rattle.board.proofs.TextLaws.{live-length, dead-length}
 use borrow.Author.Needs.{needs}
 use Rattle.board.proofs.health_length.Statement.{statement}

@@ -1,6 +1,6 @@
 -- The parts add up. Assumes nothing.
 use native.Mathlib.Omega.{arith}
-use Rattle.board.proofs.Decimals.{digits-high}
+use Rattle.writing.proofs.Decimals.{digits-high}
 use Rattle.board.proofs.TextLaws.{line-length, health-high}
 use borrow.Author.Needs.{needs}
 use Rattle.board.proofs.line_length.Statement.{statement}

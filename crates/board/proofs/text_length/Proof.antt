@@ -1,7 +1,7 @@
 -- The first line, then a line a turn. Assumes nothing.
 use Prim.Native.Nat.{_-_}
 use native.Mathlib.Omega.{arith}
-use Rattle.board.proofs.Decimals.{digits-high}
+use Rattle.writing.proofs.Decimals.{digits-high}
 use Rattle.board.proofs.TextLaws.{Counted, count-first, count-high, count-line, count-done}
 use Rattle.board.proofs.text_length.Statement.{statement}
 use Rattle.board.proofs.text_length.Tie as tie

@@ -19,7 +19,7 @@ use Rattle.rules.specs.Pick.{handedOut}
 use Rattle.rules.specs.Refusals.{pickRefusal}
 use Rattle.rules.specs.Calls.{answers, afterPick}
 use Rattle.rules.proofs.Shape.{Shaped}
-use Rattle.window.proofs.WakingLaws.{none-due}
+use Rattle.waking.proofs.WakingLaws.{none-due}
 use Rattle.counting.specs.Counting.{Paired}
 use Rattle.columns.proofs.Shapes.{shaped}
 use Rattle.choice.specs.declared.Choice.{Choice}

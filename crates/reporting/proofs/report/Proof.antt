@@ -17,9 +17,9 @@ use Rattle.rules.specs.State.{zeroList, listOf, listed, transportOf, destinatio
 use Rattle.rules.specs.Windows.{wokenAt}
 use Rattle.rules.specs.Refusals.{reportRefusal}
 use Rattle.rules.proofs.Shape.{Shaped}
-use Rattle.window.proofs.WakingLaws.{none-due}
+use Rattle.waking.proofs.WakingLaws.{none-due}
 use Rattle.reporting.proofs.ReportReplies.{CanReport}
-use Rattle.leaving.specs.Leaving.{HasColumns}
+use Rattle.settling.specs.Settling.{HasColumns}
 use Rattle.columns.proofs.Shapes.{shaped}
 use Rattle.columns.proofs.Shapes.{same-list}
 use Rattle.reporting.proofs.ReportLaws.{ReportAsks, report-asks, step-asks, put-off-asks, adopt-asks, report-is}

@@ -8,12 +8,12 @@ use Rattle.running.proofs.run_from.Statement.{statement}
 use Rattle.running.proofs.run_from.Tie as tie
 use Rattle.running.proofs.run_from.Reads as reads
 use Rattle.running.proofs.run_from.Lts as lts
-use Rattle.running.proofs.layout.end_before.Reads as end-before-reads
-use Rattle.running.proofs.layout.end_of.Reads as end-of-reads
-use Rattle.running.proofs.layout.list_places.Reads as list-places-reads
-use Rattle.running.proofs.making.make.Reads as make-reads
-use Rattle.running.proofs.layout.size_of.Reads as size-of-reads
-use Rattle.running.proofs.layout.text_places.Reads as text-places-reads
+use Rattle.layout.proofs.end_before.Reads as end-before-reads
+use Rattle.running.proofs.end_of.Reads as end-of-reads
+use Rattle.layout.proofs.list_places.Reads as list-places-reads
+use Rattle.making.proofs.make.Reads as make-reads
+use Rattle.layout.proofs.size_of.Reads as size-of-reads
+use Rattle.layout.proofs.text_places.Reads as text-places-reads
 
 abbrev Inv-loop : tie.InvT-loop
 Inv-loop calls answers₀ lists₀ texts₀ state₀ made₀ at₀ row₀ listed₀ told₀ answers lists texts state made at row listed told =

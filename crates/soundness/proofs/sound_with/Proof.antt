@@ -5,7 +5,7 @@ use mathlib.Core.Bool.{false}
 use lib.ListN.{length, length-replicate, getD-replicate}
 use borrow.Author.Tests.{not-true, not-false}
 use Rattle.laws.proofs.Choice.{true-not-false, false-of}
-use Rattle.clauses.proofs.ListLaws.{listed-below}
+use Rattle.listing.proofs.ListLaws.{listed-below}
 use Rattle.counting.proofs.TallyLaws.{counts-within}
 use Rattle.rules.proofs.RangeFacts.{home-below}
 use Rattle.clauses.proofs.Ranges.{transports-few, destinations-few}

@@ -1,0 +1,199 @@
+// One line, read as a call and made. A line that is no call leaves the state as it is.
+use lines::answer;
+use lines::setups;
+use lines::text;
+use rules::Outcome;
+use rules::Setup;
+use rules::State;
+
+// The state that a call left, and how many bytes of answer it put into the lent buffer.
+pub struct Reply {
+    pub state: State,
+    pub length: usize,
+}
+
+// The state of all zeros: a refused set-up gives it.
+pub fn no_state() -> State {
+    let u = setups::no_setup();
+    scheduler::set_up(u).state
+}
+
+// Makes the call of a line. Its numbers go to `words`, its answer to `out`; `list` and `written` are what it may lend.
+// An empty line and one that begins with '#' are no call, and have no answer.
+pub fn answer_line(
+    line: &[u8],
+    words: &mut [u64],
+    list: &mut [u16],
+    written: &mut [u8],
+    out: &mut [u8],
+    s: State,
+) -> Reply {
+    let at = text::skip_blanks(line, 0);
+    let n = line.len();
+    if n <= at {
+        return left(s, 0);
+    }
+    if line[0] == 35 {
+        return left(s, 0);
+    }
+    let end = text::find(line, at, n, 32);
+    let got = text::read_numbers(line, end, words);
+    let k = got.count;
+    if !got.whole {
+        return malformed(out, s);
+    }
+    call(&line[at..end], &words[..k], list, written, out, s)
+}
+
+// A state with so many bytes of answer.
+pub fn left(s: State, n: usize) -> Reply {
+    Reply {
+        state: s,
+        length: n,
+    }
+}
+
+fn malformed(out: &mut [u8], s: State) -> Reply {
+    let n = answer::malformed(out);
+    left(s, n)
+}
+
+// Makes the call of that name with these numbers.
+pub fn call(
+    name: &[u8],
+    words: &[u64],
+    list: &mut [u16],
+    written: &mut [u8],
+    out: &mut [u8],
+    s: State,
+) -> Reply {
+    let kind = kind_of(name);
+    if kind == 1 {
+        return set_up(words, out, s);
+    }
+    if kind == 2 {
+        return take_job(words, list, out, s);
+    }
+    if kind == 3 {
+        return pick(words, out, s);
+    }
+    if kind == 4 {
+        return report(words, list, out, s);
+    }
+    if kind == 5 {
+        return ask(words, out, s);
+    }
+    if kind == 6 {
+        return board(words, written, out, s);
+    }
+    malformed(out, s)
+}
+
+// 1 to 6 for the six calls, 0 for another name.
+fn kind_of(name: &[u8]) -> u8 {
+    if text::same(name, b"setup") {
+        return 1;
+    }
+    if text::same(name, b"job") {
+        return 2;
+    }
+    if text::same(name, b"pick") {
+        return 3;
+    }
+    if text::same(name, b"report") {
+        return 4;
+    }
+    if text::same(name, b"ask") {
+        return 5;
+    }
+    if text::same(name, b"board") {
+        return 6;
+    }
+    0
+}
+
+fn set_up(words: &[u64], out: &mut [u8], s: State) -> Reply {
+    let at = setups::count_place(words);
+    if at == 0 {
+        return malformed(out, s);
+    }
+    let u = setups::setup_of(words, at);
+    start(u, out)
+}
+
+// The set-up itself.
+pub fn start(u: Setup, out: &mut [u8]) -> Reply {
+    let r = scheduler::set_up(u);
+    let a = r.answer;
+    let n = answer::setup(out, a);
+    left(r.state, n)
+}
+
+fn take_job(words: &[u64], list: &mut [u16], out: &mut [u8], s: State) -> Reply {
+    let k = words.len();
+    if k < 4 {
+        return malformed(out, s);
+    }
+    if words[3] != (k - 4) as u64 {
+        return malformed(out, s);
+    }
+    let places = text::at_most(words[2], list.len());
+    let r = scheduler::take_job(s, words[0], words[1], &words[4..k], &mut list[..places]);
+    let a = r.answer;
+    let n = answer::job(out, a, list);
+    left(r.state, n)
+}
+
+fn pick(words: &[u64], out: &mut [u8], s: State) -> Reply {
+    if words.len() != 1 {
+        return malformed(out, s);
+    }
+    let r = scheduler::pick(s, words[0]);
+    let a = r.answer;
+    let n = answer::pick(out, a);
+    left(r.state, n)
+}
+
+fn report(words: &[u64], list: &mut [u16], out: &mut [u8], s: State) -> Reply {
+    if words.len() != 5 {
+        return malformed(out, s);
+    }
+    if 1 < words[3] {
+        return malformed(out, s);
+    }
+    let mut outcome = Outcome::Success;
+    if words[3] == 1 {
+        outcome = Outcome::Failure;
+    }
+    let places = text::at_most(words[4], list.len());
+    let r = scheduler::report(
+        s,
+        words[0],
+        words[1],
+        words[2],
+        outcome,
+        &mut list[..places],
+    );
+    let a = r.answer;
+    let n = answer::report(out, a, list);
+    left(r.state, n)
+}
+
+fn ask(words: &[u64], out: &mut [u8], s: State) -> Reply {
+    if words.len() != 1 {
+        return malformed(out, s);
+    }
+    let a = scheduler::ask(s, words[0]);
+    let n = answer::ask(out, a);
+    left(s, n)
+}
+
+fn board(words: &[u64], written: &mut [u8], out: &mut [u8], s: State) -> Reply {
+    if words.len() != 1 {
+        return malformed(out, s);
+    }
+    let room = text::at_most(words[0], written.len());
+    let a = scheduler::board(s, &mut written[..room]);
+    let n = answer::board(out, a, written);
+    left(s, n)
+}

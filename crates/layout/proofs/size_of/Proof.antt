@@ -1,0 +1,35 @@
+use borrow.Author.Needs.{needs}
+use native.Mathlib.Omega.{arith}
+use mathlib.Core.Path.{_≡_, _∙_, sym, ap₂}
+use Rattle.layout.proofs.LayoutLaws.{size-is, sum-is}
+use Rattle.layout.proofs.size_of.Statement.{statement}
+use Rattle.layout.proofs.size_of.Tie as tie
+use Rattle.layout.proofs.size_of.Reads as reads
+use Rattle.layout.proofs.size_of.Lts as lts
+use Rattle.layout.proofs.head_of.Reads as head-of-reads
+use Rattle.layout.proofs.tail_of.Reads as tail-of-reads
+
+-- src/runs.rt:248:13
+shared-slice-read-head-of : tie.Need-shared-slice-read-head-of
+shared-slice-read-head-of c = search needs
+
+-- src/runs.rt:248:5
+head-of-requires : tie.Need-head-of-requires
+head-of-requires c κs = search needs
+
+-- src/runs.rt:248:26
+tail-of-requires : tie.Need-tail-of-requires
+tail-of-requires c κs = (omega (arith, c .before .before .before .pre .0, size-is (c .before .before .before .args .words .now)), c .before .before .before .pre .1)
+
+-- src/runs.rt:248:5
+add-result : tie.Need-add-result
+add-result c = omega (arith, sum-is _ _ _ (c .before .head-of .ensures) (c .tail-of .ensures), c .before .before .before .before .pre .0, c .before .before .before .before .good)
+
+-- src/runs.rt:244:1
+returns : tie.Need-returns
+returns c = sum-is _ _ _ (c .before .head-of .ensures) (c .tail-of .ensures)
+
+pub size-of-spec : {M : Type 1} → statement M
+size-of-spec =
+    tie.close
+    (tie.spec shared-slice-read-head-of head-of-requires tail-of-requires add-result returns)

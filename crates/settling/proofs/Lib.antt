@@ -1,0 +1,3 @@
+pub mod PutOffLaws
+pub mod Steps
+pub mod RefusalLaws

@@ -1,0 +1,106 @@
+-- After i entries: `PutTo` of PutOffLaws. Assumes nothing.
+use native.Mathlib.Omega.{arith}
+use Prim.Native.Nat.{_-_, _≤_}
+use mathlib.Core.Path.{_≡_, refl, sym, _∙_}
+use mathlib.Core.Logic.{⊎-elim}
+use borrow.Author.Tests.{not-true, not-false}
+use Rattle.settling.proofs.PutOffLaws.{PutTo, put-start, put-reads, put-length, put-few, put-job, put-room, put-more, put-none, put-all, put-off-none}
+use Rattle.settling.proofs.put_off.Statement.{statement}
+use Rattle.settling.proofs.put_off.Tie as tie
+
+abbrev Inv-loop : tie.InvT-loop
+Inv-loop kind₀ job destination dropped₀ list₀ died d m₀ i₀ kind dropped list m i = PutTo d kind₀ job destination dropped₀ list₀ i kind dropped list m
+
+abbrev μ-loop : tie.MeasureT-loop
+μ-loop kind₀ job destination dropped₀ list₀ died d m₀ i₀ kind dropped list m i = 512 - i
+
+returns : tie.Need-returns Inv-loop μ-loop
+returns c = let b = c .before .before .args in rw (not-true (c .before .before .args .died) (c .if1 .taken)) (put-off-none (b .d) (b .kind .now) (b .job .now) (b .destination .now) (b .dropped .now) (b .list .now) (c .before .before .pre))
+
+loop-holds : tie.Need-loop-holds Inv-loop μ-loop
+loop-holds c = let b = c .before .before .args in put-start (b .d) (b .kind .now) (b .job .now) (b .destination .now) (b .dropped .now) (b .list .now) (c .before .before .pre)
+
+element-copy-out-if2 : tie.Need-element-copy-out-if2 Inv-loop μ-loop
+element-copy-out-if2 c = omega arith
+
+element-copy-out-if2-2 : tie.Need-element-copy-out-if2-2 Inv-loop μ-loop
+element-copy-out-if2-2 c = omega arith
+
+element-copy-out-wide : tie.Need-element-copy-out-wide Inv-loop μ-loop
+element-copy-out-wide c = omega arith
+
+wide-requires : tie.Need-wide-requires Inv-loop μ-loop
+wide-requires c κs = tt
+
+mul-dropped : tie.Need-mul-dropped Inv-loop μ-loop
+mul-dropped c = let b = c .before .before .before .before .before .before .before .before .before .args in omega (arith, put-job (b .d) (b .kind .now) (b .job .now) (b .destination .now) (b .dropped .now) (b .list .now) (c .before .before .before .before .before .before .before .before .before .pre) (c .before .before .before .before .before .before .loop .inv) (c .before .before .before .before .before .loop-test .taken) (c .before .before .if2 .taken) (c .wide .ensures .0))
+
+element-copy-out-dropped : tie.Need-element-copy-out-dropped Inv-loop μ-loop
+element-copy-out-dropped c = let b = c .before .before .before .before .before .before .before .before .before .args in put-job (b .d) (b .kind .now) (b .job .now) (b .destination .now) (b .dropped .now) (b .list .now) (c .before .before .before .before .before .before .before .before .before .pre) (c .before .before .before .before .before .before .loop .inv) (c .before .before .before .before .before .loop-test .taken) (c .before .before .if2 .taken) (c .wide .ensures .0)
+
+add-dropped : tie.Need-add-dropped Inv-loop μ-loop
+add-dropped c = let b = c .before .before .before .before .before .before .before .before .before .before .args in omega (arith, put-room (b .d) (b .kind .now) (b .job .now) (b .destination .now) (b .dropped .now) (b .list .now) (c .before .before .before .before .before .before .before .before .before .before .pre) (c .before .before .before .before .before .before .before .loop .inv) (c .before .before .before .before .before .before .loop-test .taken) (c .before .before .before .if2 .taken) (c .before .wide .ensures .0))
+
+element-write-dropped : tie.Need-element-write-dropped Inv-loop μ-loop
+element-write-dropped c = let b = c .before .before .before .before .before .before .before .before .before .before .args in put-job (b .d) (b .kind .now) (b .job .now) (b .destination .now) (b .dropped .now) (b .list .now) (c .before .before .before .before .before .before .before .before .before .before .pre) (c .before .before .before .before .before .before .before .loop .inv) (c .before .before .before .before .before .before .loop-test .taken) (c .before .before .before .if2 .taken) (c .before .wide .ensures .0)
+
+cast-list : tie.Need-cast-list Inv-loop μ-loop
+cast-list c = omega arith
+
+mul-list : tie.Need-mul-list Inv-loop μ-loop
+mul-list c = let b = c .before .before .before .before .before .before .before .before .before .before .args in omega (arith, put-few (b .d) (b .kind .now) (b .job .now) (b .destination .now) (b .dropped .now) (b .list .now) (c .before .before .before .before .before .before .before .before .before .before .pre) (c .before .before .before .before .before .before .before .loop .inv))
+
+slice-write-list : tie.Need-slice-write-list Inv-loop μ-loop
+slice-write-list c = let b = c .before .before .before .before .before .before .before .before .before .before .args in omega (arith, put-few (b .d) (b .kind .now) (b .job .now) (b .destination .now) (b .dropped .now) (b .list .now) (c .before .before .before .before .before .before .before .before .before .before .pre) (c .before .before .before .before .before .before .before .loop .inv), put-length (b .d) (b .kind .now) (b .job .now) (b .destination .now) (b .dropped .now) (b .list .now) (c .before .before .before .before .before .before .before .before .before .before .pre) (c .before .before .before .before .before .before .before .loop .inv), c .before .before .before .before .before .before .before .before .before .before .pre .places)
+
+element-write-kind : tie.Need-element-write-kind Inv-loop μ-loop
+element-write-kind c = omega arith
+
+add-m : tie.Need-add-m Inv-loop μ-loop
+add-m c = let b = c .before .before .before .before .before .before .before .before .before .before .args in omega (arith, put-few (b .d) (b .kind .now) (b .job .now) (b .destination .now) (b .dropped .now) (b .list .now) (c .before .before .before .before .before .before .before .before .before .before .pre) (c .before .before .before .before .before .before .before .loop .inv))
+
+add-i : tie.Need-add-i Inv-loop μ-loop
+add-i c = omega arith
+
+loop-less : tie.Need-loop-less Inv-loop μ-loop
+loop-less c = omega arith
+
+loop-again : tie.Need-loop-again Inv-loop μ-loop
+loop-again c = let b = c .before .before .before .before .before .before .before .args in ⊎-elim (λ w. put-more (b .d) (b .kind .now) (b .job .now) (b .destination .now) (b .dropped .now) (b .list .now) (c .before .before .before .before .before .before .before .pre) (c .before .before .before .before .loop .inv) (c .before .before .before .loop-test .taken) (w .0 .taken) (w .2 .ensures .0) (w .4) (w .5) (w .6) (w .7)) (λ w. put-none (b .d) (b .kind .now) (b .job .now) (b .destination .now) (b .dropped .now) (b .list .now) (c .before .before .before .before .before .before .before .pre) (c .before .before .before .before .loop .inv) (c .before .before .before .loop-test .taken) (w .0 .left) (w .1) (w .2) (w .3) (w .4)) (c .if2 .came)
+
+cast-result : tie.Need-cast-result Inv-loop μ-loop
+cast-result c = let b = c .before .before .before .before .args in omega (arith, put-few (b .d) (b .kind .now) (b .job .now) (b .destination .now) (b .dropped .now) (b .list .now) (c .before .before .before .before .pre) (c .before .loop .inv))
+
+same-length : tie.Need-same-length Inv-loop μ-loop
+same-length c = let b = c .before .before .before .before .args in put-length (b .d) (b .kind .now) (b .job .now) (b .destination .now) (b .dropped .now) (b .list .now) (c .before .before .before .before .pre) (c .before .loop .inv)
+
+returns-2 : tie.Need-returns-2 Inv-loop μ-loop
+returns-2 c = let b = c .before .before .before .before .args in let e : c .before .loop .i ≡ 512 = omega (arith, c .before .loop .inv .inside) in rw (not-false (c .before .before .before .before .args .died) (c .before .before .if1 .left)) (put-all (b .d) (b .kind .now) (b .job .now) (b .destination .now) (b .dropped .now) (b .list .now) (c .before .before .before .before .pre) (rw e at (c .before .loop .inv)))
+
+pub put-off-spec : {M : Type 1} → statement M
+put-off-spec =
+    tie.close
+    (tie.spec
+    Inv-loop
+    μ-loop
+    returns
+    loop-holds
+    element-copy-out-if2
+    element-copy-out-if2-2
+    element-copy-out-wide
+    wide-requires
+    mul-dropped
+    element-copy-out-dropped
+    add-dropped
+    element-write-dropped
+    cast-list
+    mul-list
+    slice-write-list
+    element-write-kind
+    add-m
+    add-i
+    loop-less
+    loop-again
+    cast-result
+    same-length
+    returns-2)
