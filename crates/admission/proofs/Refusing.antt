@@ -1,16 +1,16 @@
 -- Each row of the table of refusals, from what a pass over the columns found.
 use Prim.Native.Nat.{ℕ, _≤_, _<_}
 use mathlib.Core.Bool.{Bool, true, false, not, _&&_}
-use mathlib.Core.Path.{_≡_, refl, sym, ap, _∙_}
+use mathlib.Core.Path.{_≡_, ap, _∙_}
 use mathlib.Core.List.{List}
 use native.Mathlib.Omega.{arith}
 use lib.ListN.{length, getD}
 use lib.Dec.{eqb, ltb, leb}
-use borrow.Author.Tests.{ltb-true, ltb-false, lt-ltb, le-ltb, le-leb, lt-leb, eqb-true, eq-eqb, not-false}
+use borrow.Author.Tests.{ltb-true, lt-ltb, le-ltb, le-leb, lt-leb, eqb-true, eq-eqb, not-false}
 use Rattle.laws.specs.Choice.{if_then_else_}
-use Rattle.laws.specs.Range.{allTo, countTo, firstTo, tableTo, chosenTo}
+use Rattle.laws.specs.Range.{allTo, countTo, firstTo, tableTo}
 use Rattle.laws.specs.Sequence.{everyIn, keep}
-use Rattle.laws.proofs.Choice.{and-both, and-left, and-right, and-left-false, and-right-false, or-left, or-right, or-neither, bool-same, not-is-true, not-is-false, true-not-false, false-of}
+use Rattle.laws.proofs.Choice.{and-both, and-left, or-right, or-neither, bool-same, not-is-false}
 use Rattle.laws.proofs.All.{all-at, all-from}
 use Rattle.laws.proofs.First.{first-none, first-before, chosen-same}
 use Rattle.laws.proofs.Keep.{keep-same}
@@ -20,7 +20,7 @@ use Rattle.rules.specs.declared.Destination.{Destination}
 use Rattle.rules.specs.declared.State.{State}
 use Rattle.rules.specs.Sizes.{lastSecond}
 use Rattle.rules.specs.State.{at, isPresent, isFree}
-use Rattle.rules.specs.Setup.{within, setupInRange}
+use Rattle.rules.specs.Setup.{within}
 use Rattle.rules.specs.Sound.{sound}
 use Rattle.rules.specs.Windows.{woken, wokenAt}
 use Rattle.rules.specs.Taking.{isDead, keptOf, nOf, putOffPositions, newNumber}

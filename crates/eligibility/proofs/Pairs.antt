@@ -17,7 +17,7 @@ use Rattle.laws.proofs.Table.{length-table, getD-table}
 use Rattle.rules.specs.declared.State.{State}
 use Rattle.rules.specs.State.{at, transportOf, isWaiting, jobOf, destinationOf, isPresent, waitsOf, waitingOf, orderAt}
 use Rattle.rules.specs.SoundFacts.{Sound}
-use Rattle.rules.specs.Picking.{hasRoom, hasAgent, eligible, eligibleOf, eligibleTo, hasEligible, finds}
+use Rattle.rules.specs.Picking.{hasRoom, hasAgent, eligible, eligibleOf, eligibleTo, hasEligible}
 use Rattle.rules.proofs.Shape.{Shaped}
 use Rattle.rules.proofs.EntryFacts.{present-below, waiting-used, eligible-of-eligible, eligible-of-job, eligible-sound}
 use Rattle.counting.specs.Counting.{tallyTo, Paired}

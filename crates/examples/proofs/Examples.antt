@@ -1,15 +1,12 @@
 -- W1 to W12 hold: the rules, computed, give what the paper says. The rows of windows are computed in rules/proofs/Edges.antt.
-use Prim.Native.Nat.{_*_, _/_}
-use mathlib.Core.Path.{_≡_, refl}
-use mathlib.Core.List.{[], _∷_}
+use mathlib.Core.Path.{refl}
 use Rattle.rules.specs.declared.Health.the-variants.{Live}
-use Rattle.rules.specs.Sizes.{U}
 use Rattle.laws.specs.Choice.{if_then_else_, one}
 use Rattle.laws.specs.Range.{allTo, anyTo, countTo, firstTo, chosenTo, tableTo, foldTo}
 use Rattle.laws.specs.Sequence.{keep, holds, firstOf, upTo, insertBefore, moveBefore, padded, everyIn, countIn, holdsEachOnce, neverFalling, firstsTo, timesIn}
 use Rattle.laws.specs.Chain.{alongChain, endsIn, firstAlong}
 use Rattle.rules.specs.State.{isLive, windowOf, waitsOf, busyOf, usedOf, waitingOf}
-use Rattle.rules.specs.Setup.{firstState, within, feedbackInRange, slotsInRange, windowsInRange, settingsInRange, setupInRange, emptyState, firstDestination, freshState}
+use Rattle.rules.specs.Setup.{within, feedbackInRange, slotsInRange, windowsInRange, settingsInRange, setupInRange, emptyState, firstDestination, freshState}
 use Rattle.rules.specs.Windows.{feedback, cohortShare, isDeadAt, raised, liveAfterSuccess, afterSuccess, lowered, liveAfterFailure, afterFailure, wokenHealth, wokenAt, woken}
 use Rattle.rules.specs.Sound.{implies, belongs, entrySound, busyOn, busyTo, busySound, isJobOn, queueSound, arrivalsSound, orderOf, orderSound, countsSound, soldSound, childOf, jobSound, sumsFit, healthSound, sound}
 use Rattle.rules.specs.Taking.{isDead, putOffPositions, keptOf, nOf, newNumber, freePlaces, filled, newOrder, withOrder, taken}

@@ -1,6 +1,6 @@
 -- Moving x directly before y in one pass: x is left out, and put where y is met. The same as `moveBefore` where y is met once.
-use Prim.Native.Nat.{ℕ, zero, suc, _+_, _-_, _≤_, _<_}
-use mathlib.Core.Bool.{Bool, true, false, not}
+use Prim.Native.Nat.{ℕ, suc, _+_, _-_, _≤_, _<_}
+use mathlib.Core.Bool.{true, false, not}
 use mathlib.Core.Path.{_≡_, refl, sym, ap, _∙_}
 use mathlib.Core.Logic.{_≢_}
 use mathlib.Core.List.{List, [], _∷_, _++_, append-assoc, append-nil}
@@ -9,11 +9,11 @@ use native.Mathlib.Omega.{arith}
 use lib.Dec.{eqb}
 use lib.ListN.{length, getD, take, drop, set, length-append, length-take, take-append-drop}
 use lib.Seq.{take-suc, take-take, length-take-le}
-use borrow.Author.Tests.{eqb-true, eqb-false, eq-eqb, ne-eqb}
+use borrow.Author.Tests.{eqb-true, eq-eqb, ne-eqb}
 use Rattle.laws.specs.Choice.{if_then_else_, one}
 use Rattle.laws.specs.Sequence.{keep, holds, timesIn, insertBefore, moveBefore, padded}
-use Rattle.laws.proofs.Choice.{case-bool, if-true, if-false, false-of, eqb-sym}
-use Rattle.laws.proofs.Sequence.{times-cons, times-tail-le, times-head-once, lacks-head, lacks-tail, holds-of-times}
+use Rattle.laws.proofs.Choice.{case-bool, false-of}
+use Rattle.laws.proofs.Sequence.{times-tail-le, times-head-once, lacks-head, lacks-tail, holds-of-times}
 use Rattle.laws.proofs.Move.{length-move}
 use Rattle.laws.proofs.Building.{put-at}
 use Rattle.laws.proofs.Front.{length-snoc}

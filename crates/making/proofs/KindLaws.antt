@@ -10,7 +10,7 @@ use Rattle.laws.specs.Choice.{if_then_else_}
 use Rattle.rules.specs.declared.State.{State}
 use Rattle.rules.specs.declared.Outcome.{Outcome}
 use Rattle.rules.specs.declared.Outcome.the-variants
-use Rattle.rules.specs.Calls.{Call, job, pick, report, ask, board, jobReply, pickReply, reportReply, askReply, boardReply, replyTo}
+use Rattle.rules.specs.Calls.{job, pick, report, ask, board, jobReply, pickReply, reportReply, askReply, boardReply, replyTo}
 use Rattle.layout.specs.Layout.{word, headOf, listPlaces, textPlaces, callOf}
 use Rattle.layout.specs.Layout.{listOf, textOf}
 use Rattle.making.specs.Making.{Made, Lent, Answered}

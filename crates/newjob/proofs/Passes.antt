@@ -1,5 +1,5 @@
 -- One turn of each pass over a column.
-use Prim.Native.Nat.{ℕ, zero, _+_, _-_, _≤_, _<_}
+use Prim.Native.Nat.{ℕ, _+_, _-_, _≤_, _<_}
 use mathlib.Core.Bool.{Bool, true, false, not}
 use mathlib.Core.Path.{_≡_, refl, sym, ap, _∙_}
 use mathlib.Core.List.{List, [], _∷_, _++_}
@@ -8,8 +8,7 @@ use native.Mathlib.Decide.{ℕ-discrete}
 use native.Mathlib.Omega.{arith}
 use lib.ListN.{length, getD, take, set, length-set, replicate, getD-replicate}
 use lib.Seq.{take-length, getD-set-same, getD-set-other}
-use Rattle.laws.specs.Choice.{if_then_else_}
-use Rattle.laws.specs.Range.{chosenTo, foldTo}
+use Rattle.laws.specs.Range.{chosenTo}
 use Rattle.laws.specs.Sequence.{keep, padded, holds, firstsTo}
 use Rattle.laws.proofs.Choice.{not-is-true, not-is-false}
 use Rattle.laws.proofs.Sequence.{holds-append-right, holds-head, holds-append-other}
@@ -21,7 +20,6 @@ use Rattle.laws.proofs.Building.{put-at, keep-put, keep-skip, length-keep-take}
 use Rattle.rules.specs.State.{at}
 use Rattle.rules.specs.Calls.{written}
 use Rattle.rules.specs.Taking.{filled}
-use Rattle.newjob.specs.declared.Parts.{Parts}
 use Rattle.admission.specs.Admission.{keptBy, putOffBy}
 use Rattle.newjob.specs.NewJob.{Parted}
 

@@ -1,19 +1,18 @@
 -- What the code of a preemption and of handing out leaves is the rules' state.
-use Prim.Native.Nat.{ℕ, _+_, _%_, _<_}
-use mathlib.Core.Path.{_≡_, refl, sym, ap, subst}
+use Prim.Native.Nat.{ℕ, _+_, _%_}
+use mathlib.Core.Path.{_≡_, refl}
 use mathlib.Core.Bool.{Bool, true}
-use mathlib.Core.List.{List, []}
+use mathlib.Core.List.{List}
 use native.Mathlib.Numerals.{add-one}
-use lib.ListN.{length, getD, set}
+use lib.ListN.{set}
 use Rattle.laws.specs.Sequence.{moveBefore}
-use Rattle.laws.proofs.Columns.{getD-default}
 use Rattle.rules.specs.declared.Busy.{Busy}
 use Rattle.rules.specs.declared.JobList.{JobList}
 use Rattle.rules.specs.declared.Jobs.{Jobs}
 use Rattle.rules.specs.declared.Entries.{Entries}
 use Rattle.rules.specs.declared.State.{State}
 use Rattle.rules.specs.Sizes.{tickets}
-use Rattle.rules.specs.State.{at, zeroList, listed, queueOf, parentOf, destinationOf}
+use Rattle.rules.specs.State.{at, listed, queueOf, parentOf, destinationOf}
 use Rattle.rules.specs.Preemption.{charged, preempting}
 use Rattle.rules.specs.Pick.{handedOut}
 

@@ -21,8 +21,8 @@ use Rattle.rules.specs.declared.JobList.{JobList}
 use Rattle.rules.specs.declared.Outcome.{Outcome}
 use Rattle.rules.specs.declared.Outcome.the-variants.{Success, Failure}
 use Rattle.rules.specs.declared.State.{State}
-use Rattle.rules.specs.Sizes.{maxTransports, maxDestinations, maxJobs, maxEntries, maxLength, lastSecond}
-use Rattle.rules.specs.State.{at, settingsFor, transportOf, healthOf, isLive, zeroDestination, zeroList, listOf, listed, queueOf, isBusy, jobOf, destinationOf, isPresent, usedOf}
+use Rattle.rules.specs.Sizes.{maxTransports, maxDestinations, maxJobs, maxEntries}
+use Rattle.rules.specs.State.{at, settingsFor, transportOf, healthOf, isLive, zeroDestination, zeroList, listOf, listed, queueOf, jobOf, destinationOf, isPresent, usedOf}
 use Rattle.rules.specs.Setup.{settingsInRange, setupInRange}
 use Rattle.rules.specs.Sound.{sound, busyOn, busyTo}
 use Rattle.rules.specs.SoundFacts.{LiveSound, EntrySound, Sound}

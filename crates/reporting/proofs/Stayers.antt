@@ -16,7 +16,7 @@ use Rattle.laws.proofs.Table.{getD-table}
 use Rattle.rules.specs.declared.State.{State}
 use Rattle.rules.specs.Sizes.{maxDestinations, maxJobs, maxEntries}
 use Rattle.rules.specs.State.{at, isFree, jobOf, destinationOf, usedOf}
-use Rattle.rules.specs.SoundFacts.{Sound, EntrySound}
+use Rattle.rules.specs.SoundFacts.{Sound}
 use Rattle.rules.proofs.EntryTests.{busy-used}
 use Rattle.rules.proofs.EntryFacts.{waiting-used}
 use Rattle.rules.proofs.Soundness.{sound-facts}

@@ -10,7 +10,7 @@ use Rattle.rules.specs.declared.State.{State}
 use Rattle.rules.specs.declared.SetupAnswer.{SetupAnswer}
 use Rattle.rules.specs.declared.SetupReply.{SetupReply}
 use Rattle.rules.specs.Setup.{setupInRange, freshState}
-use Rattle.rules.specs.Calls.{Call, setupReply}
+use Rattle.rules.specs.Calls.{setupReply}
 use Rattle.rules.proofs.Demand3.{demand3, companions}
 use Rattle.rules.specs.Gave.{setupGave, accepts}
 use Rattle.running.specs.Runs.{Ran, callsRead, ranFrom, runReply, Demand3OfRun}

@@ -1,5 +1,4 @@
 -- What was seen of a run of the program: the set-up, then each call with the state that it was handed and what it gave back.
-use Prim.Native.Nat.{ℕ}
 use mathlib.Core.Path.{_≡_}
 use mathlib.Core.Bool.{true}
 use mathlib.Core.List.{List, [], _∷_, map}

@@ -1,25 +1,23 @@
 -- The pass that puts off: what it has done up to an entry, and a step of it.
 use Prim.Native.Nat.{ℕ, _+_, _≤_, _<_}
 use mathlib.Core.Path.{_≡_, refl, sym, _∙_, ap}
-use mathlib.Core.Logic.{_≢_}
-use mathlib.Core.Bool.{Bool, true, false, not, _&&_}
-use mathlib.Core.List.{List, [], _∷_, _++_}
+use mathlib.Core.Bool.{Bool, true, false, _&&_}
+use mathlib.Core.List.{List, [], _++_}
 use native.Mathlib.Numerals.{add-one}
-use native.Mathlib.Nat.{add-zero, add-assoc}
+use native.Mathlib.Nat.{add-zero}
 use native.Mathlib.Omega.{arith}
-use lib.ListN.{length, getD, set, drop, length-append, length-drop, drop-of-length-le}
+use lib.ListN.{length, getD, set, drop, length-append, length-drop}
 use lib.Dec.{eqb}
 use borrow.Author.Tests.{eqb-true, eq-eqb, ne-eqb}
 use Rattle.laws.specs.Choice.{if_then_else_, one}
 use Rattle.laws.specs.Range.{countTo, chosenTo, tableTo}
 use Rattle.laws.proofs.Choice.{and-both, and-left, and-right, and-left-false, and-right-false, if-true, if-false}
 use Rattle.laws.proofs.Count.{count-none, count-hit, count-miss, count-le-bound}
-use Rattle.laws.proofs.First.{length-chosen, chosen-same, chosen-write, chosen-skip, chosen-none}
-use Rattle.laws.proofs.Table.{length-table, getD-table, table-same, table-self, table-write}
+use Rattle.laws.proofs.First.{length-chosen, chosen-write, chosen-skip, chosen-none}
+use Rattle.laws.proofs.Table.{getD-table, table-same, table-self, table-write}
 use Rattle.laws.proofs.Fill.{getD-fill, table-drop, table-full, table-keep}
 use Rattle.rules.specs.Sizes.{maxJobs, maxEntries, maxLength}
 use Rattle.rules.specs.State.{at}
-use Rattle.rules.specs.Calls.{written}
 use Rattle.settling.specs.Settling.{putOffAt, keptAt, droppedAt, CanPutOff, PutOff}
 
 -- up to entry i, of a destination that died

@@ -1,6 +1,6 @@
 -- The reply to a job, from what each function left of the state.
 use Prim.Native.Nat.{ℕ, zero, suc, _+_, _*_, _≤_, _<_}
-use mathlib.Core.Bool.{Bool, true, false, not}
+use mathlib.Core.Bool.{Bool, true, false}
 use mathlib.Core.Path.{_≡_, refl, sym, ap, _∙_}
 use mathlib.Core.Logic.{_≢_}
 use mathlib.Core.List.{List, [], _∷_, _++_}
@@ -9,10 +9,10 @@ use native.Mathlib.Nat.{le-step, lt-suc-self, pos-of-ne-zero}
 use lib.ListN.{length, getD, take, drop, set}
 use lib.Seq.{paste, take-all}
 use lib.Dec.{eqb}
-use borrow.Author.Tests.{eq-eqb, ne-eqb, ltb-false}
+use borrow.Author.Tests.{eq-eqb, ne-eqb}
 use Rattle.laws.specs.Choice.{if_then_else_}
 use Rattle.laws.specs.Range.{countTo, chosenTo, foldTo, tableTo}
-use Rattle.laws.specs.Sequence.{everyIn, padded, firstsTo, holds}
+use Rattle.laws.specs.Sequence.{padded, firstsTo}
 use Rattle.laws.proofs.Choice.{and-left-false}
 use Rattle.laws.proofs.Columns.{getD-default}
 use Rattle.laws.proofs.Count.{count-lt-bound}
@@ -23,9 +23,8 @@ use Rattle.laws.proofs.Sequence.{length-padded, getD-padded}
 use Rattle.rules.specs.declared.Destination.{Destination}
 use Rattle.rules.specs.declared.JobList.{JobList}
 use Rattle.rules.specs.declared.State.{State}
-use Rattle.rules.specs.State.{at, zeroList, listOf, listed, queueOf, isFree, isPresent}
+use Rattle.rules.specs.State.{at, zeroList, listOf, listed, queueOf, isPresent}
 use Rattle.rules.specs.Sound.{sound, isJobOn}
-use Rattle.rules.specs.SoundFacts.{Sound}
 use Rattle.rules.specs.Windows.{woken, wokenAt}
 use Rattle.rules.specs.Taking.{putOffPositions, keptOf, nOf, newNumber, freePlaces, filled, newOrder, withOrder, taken}
 use Rattle.rules.specs.Refusals.{isDestinationOn}
@@ -35,7 +34,7 @@ use Rattle.rules.proofs.Taken.{Fits, Passed, fits-of, new-below, new-absent, ne
 use Rattle.rules.proofs.TakenLists.{queue-once, arrivals-once}
 use Rattle.rules.proofs.Accepted.{JobAccepted, passed-of}
 use Rattle.rules.proofs.KeptWaking.{woken-setup}
-use Rattle.admission.specs.Admission.{deadOn, onTransport, freeIn, keptBy, putOffBy}
+use Rattle.admission.specs.Admission.{deadOn, onTransport, freeIn}
 use Rattle.newjob.specs.NewJob.{Parted}
 use Rattle.newjob.specs.declared.Parts.{Parts}
 use Rattle.admission.proofs.Refusing.{Small, small-of, woken-table, kept-by-is, put-off-by-is}

@@ -4,7 +4,7 @@ use eligibility::is_ready;
 use eligibility::open_to;
 use rules::JobList;
 ghost use mathlib.Core.Path.{_≡_};
-ghost use Prim.Native.Nat.{ℕ, _+_, _%_, _<_, _≤_};
+ghost use Prim.Native.Nat.{_+_, _%_, _<_, _≤_};
 ghost use lib.ListN.{length, take};
 ghost use Rattle.rules.specs.Picking.{stepsTo};
 ghost use Rattle.eligibility.specs.Eligibility.{readyIn};

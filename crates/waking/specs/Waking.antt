@@ -3,14 +3,11 @@ use Prim.Native.Nat.{ℕ}
 use mathlib.Core.Bool.{Bool, false}
 use mathlib.Core.List.{List}
 use lib.ListN.{getD}
-use lib.Dec.{ltb, leb}
-use Rattle.laws.specs.Choice.{if_then_else_}
-use Rattle.rules.specs.declared.Setup.{Setup}
+use lib.Dec.{leb}
 use Rattle.rules.specs.declared.Health.{Health}
 use Rattle.rules.specs.declared.Health.the-variants.{Live, Dead}
 use Rattle.rules.specs.declared.Destination.{Destination}
-use Rattle.rules.specs.State.{at, zeroSettings, zeroDestination}
-use Rattle.rules.specs.Windows.{wokenHealth}
+use Rattle.rules.specs.State.{at, zeroDestination}
 
 -- "whose suspension ends at or before it"
 unfoldable pub isDue : Health → ℕ → Bool

@@ -1,12 +1,8 @@
 -- What soundness says of one destination, over its settings and its health alone.
-use Prim.Native.Nat.{_*_}
-use mathlib.Core.Bool.{Bool, true, _&&_}
-use lib.Dec.{ltb, leb}
+use mathlib.Core.Bool.{Bool, true}
 use Rattle.rules.specs.declared.Settings.{Settings}
-use Rattle.rules.specs.declared.Sums.{Sums}
 use Rattle.rules.specs.declared.Health.{Health}
 use Rattle.rules.specs.declared.Health.the-variants.{Live, Dead}
-use Rattle.rules.specs.Sizes.{U}
 use Rattle.rules.specs.Sound.{sumsFit}
 
 unfoldable pub healthFits : Settings → Health → Bool

@@ -1,9 +1,7 @@
 -- Each row of the table in its order. Assumes nothing.
 use borrow.Author.Needs.{needs}
-use Prim.Native.Nat.{_≤_, _<_}
-use mathlib.Core.Path.{_≡_, refl, sym, ap, _∙_}
+use mathlib.Core.Path.{sym, _∙_}
 use native.Mathlib.Omega.{arith}
-use lib.ListN.{length}
 use borrow.Author.Tests.{not-true, not-false}
 use Rattle.rules.proofs.RangeFacts.{in-range-of}
 use Rattle.rules.proofs.Soundness.{sound-facts}

@@ -1,5 +1,4 @@
-use Prim.Native.Nat.{_≤_, _<_}
-use mathlib.Core.Path.{refl, sym, _∙_, subst}
+use mathlib.Core.Path.{sym, _∙_}
 use borrow.Author.Tests.{not-true, not-false}
 use Rattle.asking.proofs.BoardReplies.{board-unsound, board-short, board-fits, board-written}
 use Rattle.rules.proofs.Soundness.{few-destinations}

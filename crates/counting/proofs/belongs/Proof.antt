@@ -1,6 +1,5 @@
 -- `counting::belongs` meets its contract.
 use borrow.Author.Needs.{needs}
-use mathlib.Core.Path.{_≡_}
 use Rattle.counting.proofs.TallyLaws.{belongs-no-job, belongs-no-destination, belongs-is}
 use Rattle.counting.proofs.belongs.Statement.{statement}
 use Rattle.counting.proofs.belongs.Tie as tie

@@ -5,7 +5,7 @@ use mathlib.Core.Path.{_≡_, refl}
 use Rattle.laws.proofs.Choice.{true-not-false}
 use borrow.Author.Tests.{not-true, not-false}
 use Rattle.rules.specs.State.{at}
-use Rattle.counting.specs.Counting.{Columns, columns}
+use Rattle.counting.specs.Counting.{columns}
 use Rattle.counting.proofs.TallyLaws.{counts-within, counts-room, Counted, counted-none, counted-free, counted-not, counted-inside, counted-kind}
 use Rattle.counting.proofs.TallyLaws.{counted-waiting, counted-busy, counted-row-fits, counted-column-fits, counted-done}
 use Rattle.counting.proofs.count_entries.Statement.{statement}

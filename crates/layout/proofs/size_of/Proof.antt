@@ -1,6 +1,5 @@
 use borrow.Author.Needs.{needs}
 use native.Mathlib.Omega.{arith}
-use mathlib.Core.Path.{_≡_, _∙_, sym, ap₂}
 use Rattle.layout.proofs.LayoutLaws.{size-is, sum-is}
 use Rattle.layout.proofs.size_of.Statement.{statement}
 use Rattle.layout.proofs.size_of.Tie as tie

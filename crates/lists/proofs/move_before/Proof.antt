@@ -1,16 +1,16 @@
 -- What becomes of the first i is written, zeros behind it. Assumes nothing.
 use borrow.Author.Needs.{needs}
-use Prim.Native.Nat.{_≤_, _<_, _-_}
-use mathlib.Core.Path.{_≡_, refl, sym, ap, _∙_}
+use Prim.Native.Nat.{_≤_, _-_}
+use mathlib.Core.Path.{_≡_, refl, sym, _∙_}
 use mathlib.Core.Logic.{⊎-elim}
 use native.Mathlib.Omega.{arith}
-use lib.ListN.{length, take, getD}
+use lib.ListN.{length, take}
 use lib.Seq.{length-take-le}
 use Rattle.laws.specs.Sequence.{padded}
 use Rattle.laws.proofs.Sequence.{holds-of-times}
 use Rattle.laws.proofs.Move.{length-move}
 use Rattle.lists.proofs.Listed.{listed-is}
-use Rattle.lists.proofs.Moving.{moved, moved-is, moved-more-skip, moved-more-here, moved-more-other, moved-room, Ready, room-here, ready-here, ready-other, ready-put, skip-put}
+use Rattle.lists.proofs.Moving.{moved, moved-is, Ready, room-here, ready-here, ready-other, ready-put, skip-put}
 use Rattle.lists.proofs.move_before.Statement.{statement}
 use Rattle.lists.proofs.move_before.Tie as tie
 

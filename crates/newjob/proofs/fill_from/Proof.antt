@@ -1,9 +1,8 @@
 -- The first i are filled. Assumes nothing.
 use borrow.Author.Needs.{needs}
-use Prim.Native.Nat.{ℕ, _≤_, _<_, _-_}
-use mathlib.Core.Path.{_≡_, refl, sym, ap, _∙_}
+use Prim.Native.Nat.{_≤_, _-_}
+use mathlib.Core.Path.{_≡_, refl}
 use native.Mathlib.Omega.{arith}
-use lib.ListN.{set, getD}
 use Rattle.laws.specs.Range.{foldTo}
 use Rattle.rules.specs.State.{at}
 use Rattle.rules.specs.Taking.{filled}

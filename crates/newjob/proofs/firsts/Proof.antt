@@ -1,13 +1,13 @@
 -- The order of the first i, and which they are. Assumes nothing.
 use borrow.Author.Needs.{needs}
-use Prim.Native.Nat.{ℕ, _+_, _≤_, _<_, _-_}
+use Prim.Native.Nat.{_≤_, _-_}
 use mathlib.Core.Bool.{true, false}
-use mathlib.Core.Path.{_≡_, refl, sym, ap, _∙_}
+use mathlib.Core.Path.{_≡_}
 use mathlib.Core.Logic.{⊎-elim}
 use native.Mathlib.Omega.{arith}
 use lib.ListN.{length, getD}
 use borrow.Author.Tests.{not-true, not-false}
-use Rattle.laws.specs.Sequence.{padded, holds, firstsTo}
+use Rattle.laws.specs.Sequence.{padded, holds}
 use Rattle.laws.proofs.Firsts.{firsts-length}
 use Rattle.rules.specs.State.{at}
 use Rattle.newjob.proofs.Passes.{Seen, seen-none, seen-room, seen-new, seen-again}

@@ -1,5 +1,4 @@
 -- The free places among the first e are written, zeros behind them. Assumes nothing.
-use borrow.Author.Needs.{needs}
 use Prim.Native.Nat.{_+_, _≤_, _<_, _-_}
 use mathlib.Core.Path.{_≡_, refl, sym, ap, _∙_}
 use mathlib.Core.Logic.{⊎-elim}
@@ -10,7 +9,7 @@ use lib.ListN.{length}
 use borrow.Author.Tests.{eq-eqb, ne-eqb}
 use Rattle.laws.specs.Range.{countTo, chosenTo}
 use Rattle.laws.specs.Sequence.{padded}
-use Rattle.laws.proofs.Count.{count-hit, count-miss, count-le-bound}
+use Rattle.laws.proofs.Count.{count-hit, count-miss}
 use Rattle.laws.proofs.First.{length-chosen, chosen-hit, chosen-miss, chosen-prefix}
 use Rattle.laws.proofs.Sequence.{getD-padded}
 use Rattle.laws.proofs.Building.{put-at}

@@ -1,10 +1,8 @@
 -- The first i are written. Assumes nothing.
-use borrow.Author.Needs.{needs}
-use Prim.Native.Nat.{ℕ, _*_, _≤_, _<_, _-_}
-use mathlib.Core.Path.{_≡_, refl, sym, ap, _∙_}
+use Prim.Native.Nat.{_*_, _≤_, _-_}
+use mathlib.Core.Path.{_≡_}
 use native.Mathlib.Numerals.{add-one}
 use native.Mathlib.Omega.{arith}
-use lib.ListN.{length}
 use lib.Seq.{paste, paste-zero, paste-suc}
 use Rattle.newjob.proofs.set_order.Statement.{statement}
 use Rattle.newjob.proofs.set_order.Tie as tie

@@ -1,10 +1,10 @@
 -- Parted up to i. Assumes nothing.
 use borrow.Author.Needs.{needs}
-use Prim.Native.Nat.{_≤_, _<_, _-_}
-use mathlib.Core.Path.{_≡_, refl, sym, ap, _∙_}
+use Prim.Native.Nat.{_-_}
+use mathlib.Core.Path.{refl}
 use mathlib.Core.Logic.{⊎-elim}
 use native.Mathlib.Omega.{arith}
-use lib.ListN.{length, length-append, length-drop}
+use lib.ListN.{length}
 use Rattle.laws.specs.Range.{chosenTo}
 use Rattle.laws.specs.Sequence.{padded, keep}
 use Rattle.newjob.proofs.Passes.{Parting, parting-found, parting-count, parting-length, parting-dead, parting-live, parted}

@@ -1,10 +1,10 @@
 -- After i entries: `PutTo` of PutOffLaws. Assumes nothing.
 use native.Mathlib.Omega.{arith}
-use Prim.Native.Nat.{_-_, _≤_}
-use mathlib.Core.Path.{_≡_, refl, sym, _∙_}
+use Prim.Native.Nat.{_-_}
+use mathlib.Core.Path.{_≡_}
 use mathlib.Core.Logic.{⊎-elim}
 use borrow.Author.Tests.{not-true, not-false}
-use Rattle.settling.proofs.PutOffLaws.{PutTo, put-start, put-reads, put-length, put-few, put-job, put-room, put-more, put-none, put-all, put-off-none}
+use Rattle.settling.proofs.PutOffLaws.{PutTo, put-start, put-length, put-few, put-job, put-room, put-more, put-none, put-all, put-off-none}
 use Rattle.settling.proofs.put_off.Statement.{statement}
 use Rattle.settling.proofs.put_off.Tie as tie
 

@@ -1,9 +1,8 @@
 -- The measure is what is left of the words. Assumes nothing.
 use Prim.Native.Nat.{_-_, _≤_}
-use mathlib.Core.Path.{_≡_, sym}
+use mathlib.Core.Path.{_≡_}
 use native.Mathlib.Omega.{arith}
 use lib.ListN.{length}
-use lib.Seq.{length-take-le}
 use borrow.Author.Needs.{needs}
 use Rattle.cases.proofs.lent.spread.Statement.{statement}
 use Rattle.cases.proofs.lent.spread.Tie as tie
