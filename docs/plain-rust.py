@@ -6,7 +6,10 @@ Run from the top of the repository: python3 docs/plain-rust.py > target/plain.rs
 import re
 from pathlib import Path
 
-CRATES = "rules window startup soundness board lists charging choice handing taking leaving scheduler".split()
+CRATES = (
+    "rules columns window waking ranges startup counting listing clauses soundness writing board lists charging eligibility turns preemption choice picking"
+    " admission newjob taking settling leaving reporting asking layout making running scheduler"
+).split()
 HEAD = """#![allow(dead_code, unused)]
 fn wrapping_add_u32(a: u32, b: u32) -> u32 {
     a.wrapping_add(b)

@@ -6,14 +6,15 @@ use mathlib.Core.Logic.{_≢_}
 use mathlib.Core.List.{List}
 use native.Mathlib.Decide.{ℕ-discrete, decLt}
 use native.Mathlib.Omega.{arith}
-use lib.Dec.{eqb, leb}
+use lib.Dec.{eqb, ltb, leb}
 use mir.Syntax.{w16}
 use mir.Val.{Fits}
 use lib.ListN.{length, getD, set, length-set, replicate, getD-replicate, List·getD-eq-default}
 use lib.Seq.{getD-set-same, getD-set-other}
 use borrow.Author.Tests.{eq-eqb, ne-eqb, lt-ltb, le-ltb, lt-leb, leb-true}
 use Rattle.laws.specs.Range.{allTo, countTo, sumTo}
-use Rattle.laws.proofs.Choice.{true-not-false, and-both, and-left-false, and-right-false, and-left, and-right, or-left, or-neither, one-true, one-false}
+use Rattle.laws.proofs.Choice.{true-not-false, false-of, and-both, and-left-false, and-right-false, and-left, and-right, or-left, or-neither, one-true, one-false}
+use Rattle.laws.proofs.Both.{and-4}
 use Rattle.laws.proofs.All.{all-false-of, all-more}
 use Rattle.laws.proofs.Count.{count-step, count-le-bound}
 use Rattle.rules.specs.State.{at}
@@ -93,10 +94,20 @@ module _ (present : List Bool) (transport home : List ℕ) (destinations : ℕ) 
   belongs-no-destination l =
       sym (and-left-false _ (and-left-false _ (and-right-false (getD present j false) (le-ltb d destinations l))))
 
-  pub belongs-is : (t : ℕ) → t ≡ at transport j → d < destinations
-      → getD present j false && eqb t (at home d) && getD marked (256 * j + d) false ≡ belongsAt present transport home destinations marked j d
+  pub belongs-no-mark : getD present j false && getD marked (256 * j + d) false ≡ false → false ≡ belongsAt present transport home destinations marked j d
   unfolding belongsAt
-  belongs-is t e l = rw (lt-ltb d destinations l, and-true (getD present j false), e)
+  belongs-no-mark f =
+      sym (false-of λ t.
+      (let all = and-4 (getD present j false) (ltb d destinations) (eqb (at transport j) (at home d)) (getD marked (256 * j + d) false) t in
+      true-not-false (and-both (all .0) (all .3)) f))
+
+  pub belongs-is : (t : ℕ) → t ≡ at transport j → d < destinations → getD present j false && getD marked (256 * j + d) false ≡ true
+      → eqb t (at home d) ≡ belongsAt present transport home destinations marked j d
+  unfolding belongsAt
+  belongs-is t e l h =
+      let there = and-left (getD present j false) (getD marked (256 * j + d) false) h in
+      let named = and-right (getD present j false) (getD marked (256 * j + d) false) h in
+      rw (there, named, lt-ltb d destinations l, e, and-true (eqb (at transport j) (at home d)))
 
   pub belongs-inside : length present ≡ 32 → belongsAt present transport home destinations marked j d ≡ true → (j < 32) × (d < destinations)
   belongs-inside e h = (

@@ -99,8 +99,11 @@ fn belongs<'b>(
     if destinations <= d {
         return false;
     }
+    if !(present[j] & marked[256 * j + d]) {
+        return false;
+    }
     let t = wide(transport[j]) as u64;
-    present[j] & (t == home[d]) & marked[256 * j + d]
+    t == home[d]
 }
 
 // One pass over the entries: whether each is free, or waiting or busy, of a present job whose order has its destination, on the destination's

@@ -12,35 +12,27 @@ use Rattle.asking.proofs.ask.Reads as reads
 use Rattle.asking.proofs.ask.Lts as lts
 use Rattle.soundness.proofs.sound.Reads as sound-reads
 
--- src/lib.rt:34:9
 sound-requires : tie.Need-sound-requires
 sound-requires c κs = search needs
 
--- src/lib.rt:35:9
 returns : tie.Need-returns
 returns c = ask-unsound (c .before .before .args .s) (c .before .before .args .job) (sym (c .before .sound .ensures) ∙ not-true _ (c .if1 .taken))
 
--- src/lib.rt:38:9
 returns-2 : tie.Need-returns-2
 returns-2 c = ask-absent (c .before .before .before .args .s) (c .before .before .before .args .job) (sym (c .before .before .sound .ensures) ∙ not-false _ (c .before .if1 .left)) (List·getD-eq-default (c .before .before .before .args .s .jobs .present) false (subst (λ n. n ≤ c .before .before .before .args .job) (sym (shaped (c .before .before .before .args .s) (c .before .before .before .good .0) .jobs .present)) (c .if2 .taken)))
 
--- src/lib.rt:42:9
 element-copy-out-if3 : tie.Need-element-copy-out-if3
 element-copy-out-if3 c = search needs
 
--- src/lib.rt:43:9
 returns-3 : tie.Need-returns-3
 returns-3 c = ask-absent (c .before .before .before .before .before .before .args .s) (c .before .before .before .before .before .before .args .job) (sym (c .before .before .before .before .before .sound .ensures) ∙ not-false _ (c .before .before .before .before .if1 .left)) (not-true _ (c .if3 .taken))
 
--- src/lib.rt:45:27
 mul-t9 : tie.Need-mul-t9
 mul-t9 c = search needs
 
--- src/lib.rt:45:27
 element-copy-out-t12 : tie.Need-element-copy-out-t12
 element-copy-out-t12 c = search needs
 
--- src/lib.rt:31:1
 returns-4 : tie.Need-returns-4
 returns-4 c = ask-answered (c .before .before .before .before .before .before .before .args .s) (c .before .before .before .before .before .before .before .args .job) _ (sym (c .before .before .before .before .before .before .sound .ensures) ∙ not-false _ (c .before .before .before .before .before .if1 .left)) (not-false _ (c .before .if3 .left)) refl
 

@@ -11,31 +11,24 @@ use Rattle.board.proofs.text_length.Reads as text-length-reads
 use Rattle.board.proofs.write.Reads as write-reads
 use Rattle.soundness.proofs.sound.Reads as sound-reads
 
--- src/lib.rt:52:9
 sound-requires : tie.Need-sound-requires
 sound-requires c κs = search needs
 
--- src/lib.rt:53:9
 returns : tie.Need-returns
 returns c = board-unsound (c .before .before .before .args .s) _ (sym (c .before .sound .ensures) ∙ not-true _ (c .if1 .taken))
 
--- src/lib.rt:58:9
 text-length-requires : tie.Need-text-length-requires
 text-length-requires c κs = few-destinations (c .before .before .before .before .before .args .s) (sym (c .before .before .before .sound .ensures) ∙ not-false _ (c .before .before .if1 .left))
 
--- src/lib.rt:60:9
 returns-2 : tie.Need-returns-2
 returns-2 c = board-short (c .before .before .before .before .before .before .before .args .s) _ (c .before .text-length .result) (sym (c .before .before .before .before .before .sound .ensures) ∙ not-false _ (c .before .before .before .before .if1 .left)) (c .before .text-length .ensures) (c .if2 .taken)
 
--- src/lib.rt:62:9
 write-requires : tie.Need-write-requires
 write-requires c κs = (few-destinations (c .before .before .before .before .before .before .before .before .args .s) (sym (c .before .before .before .before .before .before .sound .ensures) ∙ not-false _ (c .before .before .before .before .before .if1 .left)), board-fits (c .before .before .before .before .before .before .before .before .args .s) (c .before .before .before .before .before .before .before .before .args .buffer .now) (c .before .before .text-length .result) (c .before .before .text-length .ensures) (c .before .if2 .left))
 
--- src/lib.rt:49:1
 same-length : tie.Need-same-length
 same-length c = search needs
 
--- src/lib.rt:49:1
 returns-3 : tie.Need-returns-3
 returns-3 c = board-written (c .before .before .before .before .before .before .before .before .before .before .before .args .s) (c .before .before .before .before .before .before .before .before .before .before .before .args .buffer .now) _ _ (sym (c .before .before .before .before .before .before .before .before .before .sound .ensures) ∙ not-false _ (c .before .before .before .before .before .before .before .before .if1 .left)) (board-fits (c .before .before .before .before .before .before .before .before .before .before .before .args .s) (c .before .before .before .before .before .before .before .before .before .before .before .args .buffer .now) (c .before .before .before .before .before .text-length .result) (c .before .before .before .before .before .text-length .ensures) (c .before .before .before .before .if2 .left)) (c .before .before .write .ensures .count) (c .before .before .write .ensures .bytes)
 

@@ -1,4 +1,4 @@
--- `choice::choose` meets its contract: the leaf functions read what the rules read (proofs/Pairs.antt, proofs/Glue.antt), and proofs/Chosen.antt puts it together. Assumes nothing.
+-- `choice::choose` meets its contract: the leaf functions read what the rules read (eligibility/proofs/Pairs.antt, proofs/Glue.antt), and proofs/Chosen.antt puts it together. Assumes nothing.
 use Prim.Native.Nat.{_*_, _≤_, _<_}
 use mathlib.Core.Path.{_≡_, refl, sym, _∙_, ap, subst}
 use mathlib.Core.Bool.{true}

@@ -1,4 +1,4 @@
--- `soundness::entries::add_row` meets its contract. Invariant: the places passed have their sum, the others are as they were.
+-- `counting::add_row` meets its contract. Invariant: the places passed have their sum, the others are as they were.
 use native.Mathlib.Omega.{arith}
 use Prim.Native.Nat.{_+_, _*_, _-_, _≤_}
 use Rattle.rules.specs.State.{at}

@@ -1,4 +1,4 @@
--- `soundness::entries::column_sums` meets its contract. Invariant: the sums of the rows passed.
+-- `counting::column_sums` meets its contract. Invariant: the sums of the rows passed.
 use native.Mathlib.Omega.{arith}
 use Prim.Native.Nat.{ℕ, _+_, _*_, _-_, _≤_, _<_}
 use mathlib.Core.Path.{_≡_, _∙_, ap}

@@ -30,11 +30,19 @@ destination c = c .before .before .wide2 .result
 
 inside : (c : tie.Else2 Inv-loop μ-loop) → (job c < 32) × (destination c < begun c .args .destinations) × (destination c < 32)
 inside c =
-    counted-inside _ _ _ _ _ _ (c .before .before .before .before .before .before .before .before .before .loop .inv .0) (c .before .before .before .before .before .before .if1 .left) (job c) (destination c) (c .before .before .before .before .wide .ensures .0) (c .before .before .wide2 .ensures .0) _ (c .before .belongs .ensures) (not-false _ (c .if2 .left)) (begun c .pre .1 .0) (begun c .pre .0)
+    counted-inside _ _ _ _ _ _ (c .before .before .before .before .before .before .before .before .before .loop .inv .0)
+    (c .before .before .before .before .before .before .if1 .left)
+    (job c) (destination c)
+    (c .before .before .before .before .wide .ensures .0) (c .before .before .wide2 .ensures .0) _
+    (c .before .belongs .ensures) (not-false _ (c .if2 .left)) (begun c .pre .1 .0) (begun c .pre .0)
 
 kind-few : (c : tie.Else2 Inv-loop μ-loop) → at (begun c .args .kind .now) (c .before .before .before .before .before .before .before .before .before .loop .e) ≤ 2
 kind-few c =
-    counted-kind _ _ _ _ _ _ (c .before .before .before .before .before .before .before .before .before .loop .inv .0) (c .before .before .before .before .before .before .if1 .left) (job c) (destination c) (c .before .before .before .before .wide .ensures .0) (c .before .before .wide2 .ensures .0) _ (c .before .belongs .ensures) (not-false _ (c .if2 .left)) (begun c .pre .1 .0) (begun c .pre .0)
+    counted-kind _ _ _ _ _ _ (c .before .before .before .before .before .before .before .before .before .loop .inv .0)
+    (c .before .before .before .before .before .before .if1 .left)
+    (job c) (destination c)
+    (c .before .before .before .before .wide .ensures .0) (c .before .before .wide2 .ensures .0) _
+    (c .before .belongs .ensures) (not-false _ (c .if2 .left)) (begun c .pre .1 .0) (begun c .pre .0)
 
 home-below : (c : tie.Else2 Inv-loop μ-loop) → at (begun c .args .home .now) (destination c) < 4
 home-below c = begun c .pre .1 .1 .0 (destination c) (inside c .1)
@@ -98,7 +106,11 @@ loop-less-2 c = omega arith
 
 loop-again-2 : tie.Need-loop-again-2 Inv-loop μ-loop
 loop-again-2 c = (
-  counted-waiting _ _ _ _ _ _ (c .before .before .before .before .before .before .before .before .before .before .before .loop .inv .0) (c .before .before .before .before .before .before .before .before .if1 .left) (job (c .before .before)) (destination (c .before .before)) (c .before .before .before .before .before .before .wide .ensures .0) (c .before .before .before .before .wide2 .ensures .0) _ (c .before .before .before .belongs .ensures) (not-false _ (c .before .before .if2 .left)) (begun (c .before .before) .pre .1 .0) (begun (c .before .before) .pre .0)
+  counted-waiting _ _ _ _ _ _ (c .before .before .before .before .before .before .before .before .before .before .before .loop .inv .0)
+      (c .before .before .before .before .before .before .before .before .if1 .left)
+      (job (c .before .before)) (destination (c .before .before))
+      (c .before .before .before .before .before .before .wide .ensures .0) (c .before .before .before .before .wide2 .ensures .0) _
+      (c .before .before .before .belongs .ensures) (not-false _ (c .before .before .if2 .left)) (begun (c .before .before) .pre .1 .0) (begun (c .before .before) .pre .0)
       (c .before .if3 .taken),
   omega arith,
 )
@@ -153,7 +165,11 @@ loop-less-3 c = omega arith
 
 loop-again-3 : tie.Need-loop-again-3 Inv-loop μ-loop
 loop-again-3 c = (
-  counted-busy _ _ _ _ _ _ (c .before .before .before .before .before .before .before .before .before .before .before .loop .inv .0) (c .before .before .before .before .before .before .before .before .if1 .left) (job (c .before .before)) (destination (c .before .before)) (c .before .before .before .before .before .before .wide .ensures .0) (c .before .before .before .before .wide2 .ensures .0) _ (c .before .before .before .belongs .ensures) (not-false _ (c .before .before .if2 .left)) (begun (c .before .before) .pre .1 .0) (begun (c .before .before) .pre .0)
+  counted-busy _ _ _ _ _ _ (c .before .before .before .before .before .before .before .before .before .before .before .loop .inv .0)
+      (c .before .before .before .before .before .before .before .before .if1 .left)
+      (job (c .before .before)) (destination (c .before .before))
+      (c .before .before .before .before .before .before .wide .ensures .0) (c .before .before .before .before .wide2 .ensures .0) _
+      (c .before .before .before .belongs .ensures) (not-false _ (c .before .before .if2 .left)) (begun (c .before .before) .pre .1 .0) (begun (c .before .before) .pre .0)
       (omega (arith, kind-few (c .before .before), c .before .if3 .left, c .before .before .before .before .before .before .before .before .if1 .left)) (home-below (c .before .before)),
   omega arith,
 )

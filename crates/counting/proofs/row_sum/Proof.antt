@@ -1,4 +1,4 @@
--- `soundness::entries::row_sum` meets its contract. Invariant: the sum of the places passed.
+-- `counting::row_sum` meets its contract. Invariant: the sum of the places passed.
 use native.Mathlib.Omega.{arith}
 use Prim.Native.Nat.{_+_, _*_, _-_, _≤_}
 use mathlib.Core.Path.{_≡_, _∙_, ap}

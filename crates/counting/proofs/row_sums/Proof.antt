@@ -1,4 +1,4 @@
--- `soundness::entries::row_sums` meets its contract. Invariant: the places passed hold the sum of their row.
+-- `counting::row_sums` meets its contract. Invariant: the places passed hold the sum of their row.
 use native.Mathlib.Omega.{arith}
 use Prim.Native.Nat.{ℕ, _+_, _*_, _-_, _≤_, _<_}
 use mathlib.Core.Path.{_≡_, _∙_}

@@ -1,4 +1,4 @@
--- `choice::entries::any_open` meets its contract. Invariant: the result is the test over the destinations passed. Measure: those left. Assumes nothing.
+-- `eligibility::any_open` meets its contract. Invariant: the result is the test over the destinations passed. Measure: those left. Assumes nothing.
 use Prim.Native.Nat.{_-_, _≤_}
 use mathlib.Core.Path.{_≡_, refl, sym, _∙_, ap, ap₂}
 use mathlib.Core.Bool.{_||_}

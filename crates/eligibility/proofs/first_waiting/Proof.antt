@@ -1,4 +1,4 @@
--- `choice::entries::first_waiting` meets its contract. Invariant: no entry before it passes. Measure: the entries left. Assumes nothing.
+-- `eligibility::first_waiting` meets its contract. Invariant: no entry before it passes. Measure: the entries left. Assumes nothing.
 use Prim.Native.Nat.{ℕ, _-_, _≤_, _<_}
 use mathlib.Core.Path.{_≡_, sym}
 use mathlib.Core.Bool.{false}

@@ -1,4 +1,4 @@
--- `choice::entries::has_room` meets its contract, by the two forms of a destination. Assumes nothing.
+-- `eligibility::has_room` meets its contract, by the two forms of a destination. Assumes nothing.
 use Rattle.eligibility.proofs.Rooms.{room-live, room-dead}
 use borrow.Author.Needs.{needs}
 use Rattle.eligibility.proofs.has_room.Statement.{statement}

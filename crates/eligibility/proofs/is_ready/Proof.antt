@@ -1,4 +1,4 @@
--- `choice::entries::is_ready` meets its contract. Assumes nothing.
+-- `eligibility::is_ready` meets its contract. Assumes nothing.
 use mathlib.Core.Path.{sym, _∙_}
 use native.Mathlib.Omega.{arith}
 use Rattle.eligibility.proofs.Pairs.{ready-at, ready-past}

@@ -1,4 +1,4 @@
--- `choice::entries::left_of` meets its contract. Assumes nothing.
+-- `eligibility::left_of` meets its contract. Assumes nothing.
 use mathlib.Core.Path.{refl}
 use native.Mathlib.Omega.{arith}
 use Rattle.laws.specs.Choice.{if_then_else_}

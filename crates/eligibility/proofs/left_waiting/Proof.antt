@@ -1,4 +1,4 @@
--- `choice::entries::left_waiting` meets its contract. Invariant: the table is filled below j (`Filled`). Measure: the jobs left. Assumes nothing.
+-- `eligibility::left_waiting` meets its contract. Invariant: the table is filled below j (`Filled`). Measure: the jobs left. Assumes nothing.
 use Prim.Native.Nat.{_-_}
 use mathlib.Core.Path.{_≡_}
 use native.Mathlib.Omega.{arith}

@@ -1,4 +1,4 @@
--- `choice::entries::open_pair` meets its contract. Assumes nothing.
+-- `eligibility::open_pair` meets its contract. Assumes nothing.
 use mathlib.Core.Path.{refl}
 use borrow.Author.Needs.{needs}
 use Rattle.eligibility.specs.Eligibility.{openPair}

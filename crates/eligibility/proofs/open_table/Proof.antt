@@ -1,4 +1,4 @@
--- `choice::entries::open_table` meets its contract. Invariant: below d, the table holds `isOpen`. Measure: the destinations left. Assumes nothing.
+-- `eligibility::open_table` meets its contract. Invariant: below d, the table holds `isOpen`. Measure: the destinations left. Assumes nothing.
 use Prim.Native.Nat.{ℕ, _≤_, _<_, _-_}
 use mathlib.Core.Path.{_≡_, refl, _∙_, ap, ap₂}
 use mathlib.Core.Bool.{false, _&&_}

@@ -1,4 +1,4 @@
--- `choice::entries::open_to` meets its contract. Assumes nothing.
+-- `eligibility::open_to` meets its contract. Assumes nothing.
 use mathlib.Core.Path.{sym, _∙_, ap}
 use mathlib.Core.Bool.{_&&_}
 use native.Mathlib.Omega.{arith}

@@ -6,17 +6,14 @@ use Rattle.layout.proofs.head_of.Tie as tie
 use Rattle.layout.proofs.head_of.Reads as reads
 use Rattle.layout.proofs.head_of.Lts as lts
 
--- src/runs.rt:195:9
 returns : tie.Need-returns
 unfolding headOf if_then_else_
 returns c = rw (c .if1 .taken) refl
 
--- src/runs.rt:198:9
 returns-2 : tie.Need-returns-2
 unfolding headOf if_then_else_
 returns-2 c = rw (c .before .if1 .left, c .if2 .taken) refl
 
--- src/runs.rt:191:1
 returns-3 : tie.Need-returns-3
 unfolding headOf if_then_else_
 returns-3 c = rw (c .before .if1 .left, c .if2 .left) refl

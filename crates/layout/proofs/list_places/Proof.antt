@@ -6,27 +6,21 @@ use Rattle.layout.proofs.list_places.Tie as tie
 use Rattle.layout.proofs.list_places.Reads as reads
 use Rattle.layout.proofs.list_places.Lts as lts
 
--- src/runs.rt:221:16
 shared-slice-read-kind : tie.Need-shared-slice-read-kind
 shared-slice-read-kind c = search needs
 
--- src/runs.rt:223:16
 shared-slice-read-result : tie.Need-shared-slice-read-result
 shared-slice-read-result c = inside (head-job _ (c .before .if1 .taken)) (c .before .before .before .pre .0) (omega arith)
 
--- src/runs.rt:223:9
 returns : tie.Need-returns
 returns c = list-job _ (c .before .if1 .taken)
 
--- src/runs.rt:226:16
 shared-slice-read-result-2 : tie.Need-shared-slice-read-result-2
 shared-slice-read-result-2 c = inside (head-five _ (c .before .if2 .taken)) (c .before .before .before .before .pre .0) (omega arith)
 
--- src/runs.rt:226:9
 returns-2 : tie.Need-returns-2
 returns-2 c = list-report _ (c .before .before .if1 .left) (c .before .if2 .taken)
 
--- src/runs.rt:217:1
 returns-3 : tie.Need-returns-3
 returns-3 c = list-none _ (c .before .if1 .left) (c .if2 .left)
 

@@ -8,23 +8,18 @@ use Rattle.layout.proofs.size_of.Lts as lts
 use Rattle.layout.proofs.head_of.Reads as head-of-reads
 use Rattle.layout.proofs.tail_of.Reads as tail-of-reads
 
--- src/runs.rt:248:13
 shared-slice-read-head-of : tie.Need-shared-slice-read-head-of
 shared-slice-read-head-of c = search needs
 
--- src/runs.rt:248:5
 head-of-requires : tie.Need-head-of-requires
 head-of-requires c κs = search needs
 
--- src/runs.rt:248:26
 tail-of-requires : tie.Need-tail-of-requires
 tail-of-requires c κs = (omega (arith, c .before .before .before .pre .0, size-is (c .before .before .before .args .words .now)), c .before .before .before .pre .1)
 
--- src/runs.rt:248:5
 add-result : tie.Need-add-result
 add-result c = omega (arith, sum-is _ _ _ (c .before .head-of .ensures) (c .tail-of .ensures), c .before .before .before .before .pre .0, c .before .before .before .before .good)
 
--- src/runs.rt:244:1
 returns : tie.Need-returns
 returns c = sum-is _ _ _ (c .before .head-of .ensures) (c .tail-of .ensures)
 

@@ -6,19 +6,15 @@ use Rattle.layout.proofs.tail_of.Tie as tie
 use Rattle.layout.proofs.tail_of.Reads as reads
 use Rattle.layout.proofs.tail_of.Lts as lts
 
--- src/runs.rt:208:16
 shared-slice-read-kind : tie.Need-shared-slice-read-kind
 shared-slice-read-kind c = search needs
 
--- src/runs.rt:210:16
 shared-slice-read-result : tie.Need-shared-slice-read-result
 shared-slice-read-result c = inside (head-job _ (c .before .if1 .taken)) (c .before .before .before .pre .0) (omega arith)
 
--- src/runs.rt:210:9
 returns : tie.Need-returns
 returns c = tail-job _ (c .before .if1 .taken)
 
--- src/runs.rt:204:1
 returns-2 : tie.Need-returns-2
 returns-2 c = tail-none _ (c .if1 .left)
 

@@ -6,19 +6,15 @@ use Rattle.layout.proofs.text_places.Tie as tie
 use Rattle.layout.proofs.text_places.Reads as reads
 use Rattle.layout.proofs.text_places.Lts as lts
 
--- src/runs.rt:235:16
 shared-slice-read-kind : tie.Need-shared-slice-read-kind
 shared-slice-read-kind c = search needs
 
--- src/runs.rt:237:16
 shared-slice-read-result : tie.Need-shared-slice-read-result
 shared-slice-read-result c = inside (head-board _ (c .before .if1 .taken)) (c .before .before .before .pre .0) (omega arith)
 
--- src/runs.rt:237:9
 returns : tie.Need-returns
 returns c = text-board _ (c .before .if1 .taken)
 
--- src/runs.rt:231:1
 returns-2 : tie.Need-returns-2
 returns-2 c = text-none _ (c .if1 .left)
 

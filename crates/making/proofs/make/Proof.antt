@@ -12,103 +12,78 @@ use Rattle.making.proofs.make_job.Reads as make-job-reads
 use Rattle.making.proofs.make_pick.Reads as make-pick-reads
 use Rattle.making.proofs.make_report.Reads as make-report-reads
 
--- src/runs.rt:169:16
 shared-slice-read-kind : tie.Need-shared-slice-read-kind
 shared-slice-read-kind c = some-words (c .before .before .before .before .before .pre)
 
--- src/runs.rt:171:9
 make-job-requires : tie.Need-make-job-requires
 make-job-requires c κs = (c .before .before .before .before .before .before .before .before .pre .room, job-fits (c .before .before .before .before .before .before .before .before .pre) (c .before .before .if1 .taken))
 
--- src/runs.rt:171:9
 same-length : tie.Need-same-length
 same-length c = search needs
 
--- src/runs.rt:171:9
 same-length-2 : tie.Need-same-length-2
 same-length-2 c = search needs
 
--- src/runs.rt:171:9
 returns : tie.Need-returns
 returns c = answered-job (c .before .before .before .before .before .before .before .before .before .before .before .before .before .pre) _ (c .before .before .before .before .before .before .before .if1 .taken) (c .before .before .before .before .make-job .ensures)
 
--- src/runs.rt:174:29
 shared-slice-read-make-pick : tie.Need-shared-slice-read-make-pick
 shared-slice-read-make-pick c = inside (head-pick _ (c .before .if2 .taken)) (head-fits (c .before .before .before .before .before .before .before .before .pre)) (omega arith)
 
--- src/runs.rt:174:9
 make-pick-requires : tie.Need-make-pick-requires
 make-pick-requires c κs = c .before .before .before .before .before .before .before .before .before .pre .room
 
--- src/runs.rt:174:9
 same-length-3 : tie.Need-same-length-3
 same-length-3 c = search needs
 
--- src/runs.rt:174:9
 returns-2 : tie.Need-returns-2
 returns-2 c = answered-pick (c .before .before .before .before .before .before .before .before .before .before .before .before .pre) _ (c .before .before .before .before .before .if2 .taken) (c .before .before .make-pick .ensures)
 
--- src/runs.rt:177:9
 make-report-requires : tie.Need-make-report-requires
 make-report-requires c κs = (c .before .before .before .before .before .before .before .before .before .before .pre .room, inside (head-success _ (c .before .before .if3 .taken)) (head-fits (c .before .before .before .before .before .before .before .before .before .before .pre)) (omega arith))
 
--- src/runs.rt:177:9
 same-length-4 : tie.Need-same-length-4
 same-length-4 c = search needs
 
--- src/runs.rt:177:9
 same-length-5 : tie.Need-same-length-5
 same-length-5 c = search needs
 
--- src/runs.rt:177:9
 returns-3 : tie.Need-returns-3
 returns-3 c = answered-success (c .before .before .before .before .before .before .before .before .before .before .before .before .before .before .before .pre) _ (c .before .before .before .before .before .before .before .if3 .taken) (c .before .before .before .before .make-report .ensures)
 
--- src/runs.rt:180:9
 make-report-requires-2 : tie.Need-make-report-requires-2
 make-report-requires-2 c κs = (c .before .before .before .before .before .before .before .before .before .before .before .pre .room, inside (head-failure _ (c .before .before .if4 .taken)) (head-fits (c .before .before .before .before .before .before .before .before .before .before .before .pre)) (omega arith))
 
--- src/runs.rt:180:9
 same-length-6 : tie.Need-same-length-6
 same-length-6 c = search needs
 
--- src/runs.rt:180:9
 same-length-7 : tie.Need-same-length-7
 same-length-7 c = search needs
 
--- src/runs.rt:180:9
 returns-4 : tie.Need-returns-4
 returns-4 c = answered-failure (c .before .before .before .before .before .before .before .before .before .before .before .before .before .before .before .before .pre) _ (c .before .before .before .before .before .before .before .if4 .taken) (c .before .before .before .before .make-report2 .ensures)
 
--- src/runs.rt:183:21
 shared-slice-read-make-ask : tie.Need-shared-slice-read-make-ask
 shared-slice-read-make-ask c = inside (head-ask _ (c .before .if5 .taken)) (head-fits (c .before .before .before .before .before .before .before .before .before .before .before .pre)) (omega arith)
 
--- src/runs.rt:183:9
 make-ask-requires : tie.Need-make-ask-requires
 make-ask-requires c κs = c .before .before .before .before .before .before .before .before .before .before .before .before .pre .room
 
--- src/runs.rt:184:9
 same-length-8 : tie.Need-same-length-8
 same-length-8 c = search needs
 
--- src/runs.rt:184:9
 returns-5 : tie.Need-returns-5
 returns-5 c = answered-ask (c .before .before .before .before .before .before .before .before .before .before .before .before .before .before .before .pre) _ (c .before .before .before .before .before .if5 .taken) (c .before .before .make-ask .ensures)
 
--- src/runs.rt:186:5
 make-board-requires : tie.Need-make-board-requires
 make-board-requires c κs = c .before .before .before .before .before .before .before .before .before .before .before .before .pre .room
 
--- src/runs.rt:165:1
 same-length-9 : tie.Need-same-length-9
 same-length-9 c = search needs
 
--- src/runs.rt:165:1
 same-length-10 : tie.Need-same-length-10
 same-length-10 c = search needs
 
--- src/runs.rt:165:1
 returns-6 : tie.Need-returns-6
 returns-6 c = answered-board (c .before .before .before .before .before .before .before .before .before .before .before .before .before .before .before .before .before .pre) _ (last-kind _ (c .before .before .before .before .before .before .before .before .before .before .before .before .before .before .before .before .before .pre .known) (c .before .before .before .before .before .before .before .before .before .before .before .if1 .left) (c .before .before .before .before .before .before .before .before .before .before .if2 .left) (c .before .before .before .before .before .before .before .before .before .if3 .left) (c .before .before .before .before .before .before .before .before .if4 .left) (c .before .before .before .before .before .before .before .if5 .left)) (c .before .before .before .before .make-board .ensures)
 

@@ -7,19 +7,15 @@ use Rattle.making.proofs.make_ask.Lts as lts
 use Rattle.asking.proofs.ask.Reads as ask-reads
 use Rattle.layout.proofs.rows.put_ask.Reads as put-ask-reads
 
--- src/runs.rt:152:9
 ask-requires : tie.Need-ask-requires
 ask-requires c κs = search needs
 
--- src/runs.rt:153:5
 put-ask-requires : tie.Need-put-ask-requires
 put-ask-requires c κs = search needs
 
--- src/runs.rt:148:1
 same-length : tie.Need-same-length
 same-length c = search needs
 
--- src/runs.rt:148:1
 returns : tie.Need-returns
 returns c = made _ _ _ (c .before .before .before .before .ask .ensures) (c .before .before .put-ask .ensures)
 

@@ -7,23 +7,18 @@ use Rattle.making.proofs.make_board.Lts as lts
 use Rattle.asking.proofs.board.Reads as board-reads
 use Rattle.layout.proofs.rows.put_board.Reads as put-board-reads
 
--- src/runs.rt:160:9
 board-requires : tie.Need-board-requires
 board-requires c κs = search needs
 
--- src/runs.rt:161:5
 put-board-requires : tie.Need-put-board-requires
 put-board-requires c κs = search needs
 
--- src/runs.rt:156:1
 same-length : tie.Need-same-length
 same-length c = search needs
 
--- src/runs.rt:156:1
 same-length-2 : tie.Need-same-length-2
 same-length-2 c = search needs
 
--- src/runs.rt:156:1
 returns : tie.Need-returns
 returns c = made _ _ _ (c .before .before .before .before .before .before .board .ensures) (c .before .before .put-board .ensures)
 

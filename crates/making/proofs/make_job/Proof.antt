@@ -8,51 +8,39 @@ use Rattle.making.proofs.make_job.Lts as lts
 use Rattle.layout.proofs.rows.put_job.Reads as put-job-reads
 use Rattle.taking.proofs.take_job.Reads as take-job-reads
 
--- src/runs.rt:122:20
 shared-slice-read-end : tie.Need-shared-slice-read-end
 shared-slice-read-end c = search needs
 
--- src/runs.rt:122:15
 add-end : tie.Need-add-end
 add-end c = search needs
 
--- src/runs.rt:123:32
 shared-slice-read-take-job : tie.Need-shared-slice-read-take-job
 shared-slice-read-take-job c = search needs
 
--- src/runs.rt:123:42
 shared-slice-read-take-job-2 : tie.Need-shared-slice-read-take-job-2
 shared-slice-read-take-job-2 c = search needs
 
--- src/runs.rt:123:52
 sub-take-job : tie.Need-sub-take-job
 sub-take-job c = search needs
 
--- src/runs.rt:123:52
 part-take-job-start : tie.Need-part-take-job-start
 part-take-job-start c = search needs
 
--- src/runs.rt:123:52
 part-take-job-end : tie.Need-part-take-job-end
 part-take-job-end c = search needs
 
--- src/runs.rt:123:9
 take-job-requires : tie.Need-take-job-requires
 take-job-requires c κs = search needs
 
--- src/runs.rt:125:5
 put-job-requires : tie.Need-put-job-requires
 put-job-requires c κs = search needs
 
--- src/runs.rt:118:1
 same-length : tie.Need-same-length
 same-length c = search needs
 
--- src/runs.rt:118:1
 same-length-2 : tie.Need-same-length-2
 same-length-2 c = search needs
 
--- src/runs.rt:118:1
 returns : tie.Need-returns
 returns c = made-job _ _ _ (c .before .before .before .before .before .before .before .before .before .before .before .before .before .before .before .before .args .words .now) (c .before .before .before .before .before .before .before .before .before .before .before .before .before .before .before .before .args .list .now) (word (c .before .before .before .before .before .before .before .before .before .before .before .before .before .before .before .before .args .words .now) 4) _ _ (c .before .before .before .before .before .before .before .take-job .ensures) (c .before .before .before .put-job .ensures)
 

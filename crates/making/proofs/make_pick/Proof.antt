@@ -7,19 +7,15 @@ use Rattle.making.proofs.make_pick.Lts as lts
 use Rattle.picking.proofs.pick.Reads as pick-reads
 use Rattle.layout.proofs.rows.put_pick.Reads as put-pick-reads
 
--- src/runs.rt:132:9
 pick-requires : tie.Need-pick-requires
 pick-requires c κs = search needs
 
--- src/runs.rt:134:5
 put-pick-requires : tie.Need-put-pick-requires
 put-pick-requires c κs = search needs
 
--- src/runs.rt:128:1
 same-length : tie.Need-same-length
 same-length c = search needs
 
--- src/runs.rt:128:1
 returns : tie.Need-returns
 returns c = made _ _ _ (c .before .before .before .before .before .pick .ensures) (c .before .before .before .put-pick .ensures)
 

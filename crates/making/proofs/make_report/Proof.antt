@@ -7,35 +7,27 @@ use Rattle.making.proofs.make_report.Lts as lts
 use Rattle.reporting.proofs.report.Reads as report-reads
 use Rattle.layout.proofs.rows.put_report.Reads as put-report-reads
 
--- src/runs.rt:142:30
 shared-slice-read-report : tie.Need-shared-slice-read-report
 shared-slice-read-report c = search needs
 
--- src/runs.rt:142:40
 shared-slice-read-report-2 : tie.Need-shared-slice-read-report-2
 shared-slice-read-report-2 c = search needs
 
--- src/runs.rt:142:50
 shared-slice-read-report-3 : tie.Need-shared-slice-read-report-3
 shared-slice-read-report-3 c = search needs
 
--- src/runs.rt:142:9
 report-requires : tie.Need-report-requires
 report-requires c κs = search needs
 
--- src/runs.rt:144:5
 put-report-requires : tie.Need-put-report-requires
 put-report-requires c κs = search needs
 
--- src/runs.rt:138:1
 same-length : tie.Need-same-length
 same-length c = search needs
 
--- src/runs.rt:138:1
 same-length-2 : tie.Need-same-length-2
 same-length-2 c = search needs
 
--- src/runs.rt:138:1
 returns : tie.Need-returns
 returns c = made _ _ _ (c .before .before .before .before .before .before .before .report .ensures) (c .before .before .before .put-report .ensures)
 

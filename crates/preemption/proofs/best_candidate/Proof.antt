@@ -1,4 +1,4 @@
--- `choice::preemption::best_candidate` meets its contract. Invariant: the best of those before rank i (`BestTo`). Measure: the ranks left. Assumes nothing.
+-- `preemption::best_candidate` meets its contract. Invariant: the best of those before rank i (`BestTo`). Measure: the ranks left. Assumes nothing.
 use Prim.Native.Nat.{_≤_, _<_, _-_}
 use mathlib.Core.Path.{_≡_, refl, sym, _∙_}
 use mathlib.Core.Bool.{_&&_}

@@ -1,4 +1,4 @@
--- `choice::preemption::challenges` meets its contract. Assumes nothing.
+-- `preemption::challenges` meets its contract. Assumes nothing.
 use Prim.Native.Nat.{_-_, _≤_}
 use mathlib.Core.Path.{_≡_, refl, sym, _∙_, ap, subst}
 use native.Mathlib.Omega.{arith}

@@ -1,4 +1,4 @@
--- `choice::preemption::find_preemptor` meets its contract: each way out is a law of proofs/Preempts.antt. Assumes nothing.
+-- `preemption::find_preemptor` meets its contract: each way out is a law of proofs/Preempts.antt. Assumes nothing.
 use Prim.Native.Nat.{suc, _*_, _≤_}
 use mathlib.Core.Path.{_≡_, sym, _∙_, ap, ap₂, subst}
 use mathlib.Core.Bool.{true}

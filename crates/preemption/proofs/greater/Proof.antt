@@ -1,4 +1,4 @@
--- `choice::preemption::greater` meets its contract: both products fit. Assumes nothing.
+-- `preemption::greater` meets its contract: both products fit. Assumes nothing.
 use Rattle.preemption.proofs.Credits.{fraction-fits}
 use borrow.Author.Needs.{needs}
 use Rattle.preemption.proofs.greater.Statement.{statement}

@@ -1,4 +1,4 @@
--- `choice::preemption::has_credit` meets its contract. Assumes nothing.
+-- `preemption::has_credit` meets its contract. Assumes nothing.
 use mir.Facts.{toZ-ofZ}
 use Rattle.preemption.proofs.Credits.{has-credit-is}
 use Rattle.preemption.proofs.has_credit.Statement.{statement}

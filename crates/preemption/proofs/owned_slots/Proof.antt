@@ -1,4 +1,4 @@
--- `choice::preemption::owned_slots` meets its contract: a credit of at least 1 is its own magnitude. Assumes nothing.
+-- `preemption::owned_slots` meets its contract: a credit of at least 1 is its own magnitude. Assumes nothing.
 use mir.Facts.{toZ-ofZ}
 use Rattle.preemption.proofs.Credits.{owned-fits, owned-is}
 use Rattle.preemption.proofs.owned_slots.Statement.{statement}

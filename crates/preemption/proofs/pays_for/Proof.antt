@@ -1,4 +1,4 @@
--- `choice::preemption::pays_for` meets its contract. Assumes nothing.
+-- `preemption::pays_for` meets its contract. Assumes nothing.
 use Rattle.rules.specs.Preemption.{paysFor}
 use mathlib.Core.Path.{refl}
 use Rattle.preemption.proofs.Credits.{price-fits, worth-fits}

@@ -1,4 +1,4 @@
--- `choice::preemption::slot_credit` meets its contract: both numbers are small, so the signed difference fits. Assumes nothing.
+-- `preemption::slot_credit` meets its contract: both numbers are small, so the signed difference fits. Assumes nothing.
 use Prim.Native.Nat.{_*_}
 use Rattle.rules.specs.Preemption.{credit}
 use Rattle.preemption.proofs.Credits.{credit-fits, credit-is}

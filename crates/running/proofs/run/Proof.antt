@@ -7,39 +7,30 @@ use Rattle.running.proofs.run.Lts as lts
 use Rattle.running.proofs.run_from.Reads as run-from-reads
 use Rattle.startup.proofs.set_up.Reads as set-up-reads
 
--- src/lib.rt:179:9
 set-up-requires : tie.Need-set-up-requires
 set-up-requires c κs = search needs
 
--- src/lib.rt:182:30
 enum-known-a : tie.Need-enum-known-a
 enum-known-a c = search needs
 
--- src/lib.rt:186:65
 enum-told : tie.Need-enum-told
 enum-told c = search needs
 
--- src/lib.rt:186:34
 run-from-requires : tie.Need-run-from-requires
 run-from-requires c κs = search needs
 
--- src/lib.rt:168:1
 returns : tie.Need-returns
 returns c = run-refused (c .before .before .before .before .before .before .before .before .args .u) (c .before .before .before .before .before .before .before .before .args .calls .now) (c .before .before .before .before .before .before .before .before .args .answers .now) (c .before .before .before .before .before .before .before .before .args .lists .now) (c .before .before .before .before .before .before .before .before .args .texts .now) (told _ _ (c .before .before .before .set-up .ensures .1) (c .before .a .given .1))
 
--- src/lib.rt:168:1
 same-length : tie.Need-same-length
 same-length c = search needs
 
--- src/lib.rt:168:1
 same-length-2 : tie.Need-same-length-2
 same-length-2 c = search needs
 
--- src/lib.rt:168:1
 same-length-3 : tie.Need-same-length-3
 same-length-3 c = search needs
 
--- src/lib.rt:168:1
 returns-2 : tie.Need-returns-2
 returns-2 c = run-accepted (c .before .before .before .before .before .before .before .before .before .before .before .before .before .before .before .before .before .args .u) (c .before .before .before .before .before .before .before .before .before .before .before .before .before .before .before .before .before .args .calls .now) (c .before .before .before .before .before .before .before .before .before .before .before .before .before .before .before .before .before .args .answers .now) (c .before .before .before .before .before .before .before .before .before .before .before .before .before .before .before .before .before .args .lists .now) (c .before .before .before .before .before .before .before .before .before .before .before .before .before .before .before .before .before .args .texts .now) (c .before .before .before .before .before .before .before .before .before .before .before .before .set-up .result) _ (told _ _ (c .before .before .before .before .before .before .before .before .before .before .before .before .set-up .ensures .1) (c .before .before .before .before .before .before .before .before .before .before .enum-told .given .1)) (c .before .before .before .before .before .before .before .before .before .before .before .before .set-up .ensures .0) (c .before .before .before .before .before .before .run-from .ensures)
 

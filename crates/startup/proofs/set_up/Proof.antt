@@ -21,19 +21,15 @@ inside c = sym (c .before .in-range .ensures) ∙ not-false _ (c .if1 .left)
 in-range-requires : tie.Need-in-range-requires
 in-range-requires c κs = search needs
 
--- src/lib.rt:16:20
 zero-requires : tie.Need-zero-requires
 zero-requires c κs = search needs
 
--- src/lib.rt:14:9
 returns : tie.Need-returns
 returns c = (setup-refused (c .before .before .before .args .u) (c .zero .result) (outside (c .before)) (c .zero .ensures), sym (outside (c .before)))
 
--- src/lib.rt:21:16
 fresh-requires : tie.Need-fresh-requires
 fresh-requires c κs = inside c
 
--- src/lib.rt:10:1
 returns-2 : tie.Need-returns-2
 returns-2 c = (setup-accepted (c .before .before .before .args .u) (c .fresh .result) (inside (c .before)) (c .fresh .ensures), sym (inside (c .before)))
 

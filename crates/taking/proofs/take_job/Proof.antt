@@ -1,4 +1,4 @@
--- `scheduler::take_job` meets its contract: refused, or what `taking::take` gives. Assumes nothing.
+-- `taking::take_job` meets its contract: refused, or what `take` gives. Assumes nothing.
 use mathlib.Core.Path.{refl, sym, _∙_}
 use lib.ListN.{getD-replicate}
 use borrow.Author.Needs.{needs}

@@ -1,4 +1,4 @@
--- `choice::turns::find_front` meets its contract. Invariant: no job before place i is ready, and those with a waiting entry are counted. Measure: the places left. Assumes nothing.
+-- `turns::find_front` meets its contract. Invariant: no job before place i is ready, and those with a waiting entry are counted. Measure: the places left. Assumes nothing.
 use Prim.Native.Nat.{ℕ, _+_, _≤_, _<_, _-_}
 use mathlib.Core.Path.{_≡_, refl, sym, _∙_, ap}
 use mathlib.Core.Bool.{Bool, true, false}

@@ -23,84 +23,72 @@ abbrev put-decimal-below : ℕ → In 1 put-decimal-kinds.ps
 put-decimal-below t =
     and 1 put-decimal-kinds.ps (falls 1 put-decimal-kinds.ps _<_ μ-put-decimal t) put-decimal.Pre
 
--- src/lib.rt:29:23
 put-decimal-cast-buf : (t : ℕ) → put-decimal-lts.Need-cast-buf (
   put-decimal-below t,
   put-decimal.Post,
 ) (put-decimal-at t) put-decimal.Post
 put-decimal-cast-buf t c = omega arith
 
--- src/lib.rt:29:18
 put-decimal-add-buf : (t : ℕ) → put-decimal-lts.Need-add-buf (
   put-decimal-below t,
   put-decimal.Post,
 ) (put-decimal-at t) put-decimal.Post
 put-decimal-add-buf t c = omega arith
 
--- src/lib.rt:29:9
 put-decimal-slice-write-buf : (t : ℕ) → put-decimal-lts.Need-slice-write-buf (
   put-decimal-below t,
   put-decimal.Post,
 ) (put-decimal-at t) put-decimal.Post
 put-decimal-slice-write-buf t c = omega (arith, digits-small (c .before .before .args .x) (omega arith), c .before .before .pre .1)
 
--- src/lib.rt:30:9
 put-decimal-same-length : (t : ℕ) → put-decimal-lts.Need-same-length (
   put-decimal-below t,
   put-decimal.Post,
 ) (put-decimal-at t) put-decimal.Post
 put-decimal-same-length t c = simp length-set
 
--- src/lib.rt:30:9
 put-decimal-returns : (t : ℕ) → put-decimal-lts.Need-returns (
   put-decimal-below t,
   put-decimal.Post,
 ) (put-decimal-at t) put-decimal.Post
 put-decimal-returns t c = put-small (c .before .before .args .x) (c .before .before .args .buf .now) (omega arith) (c .before .before .pre .1)
 
--- src/lib.rt:32:9
 put-decimal-put-decimal-requires : (t : ℕ) → put-decimal-lts.Need-put-decimal-requires (
   put-decimal-below t,
   put-decimal.Post,
 ) (put-decimal-at t) put-decimal.Post
 put-decimal-put-decimal-requires t c κs = (omega arith, le-of-lt (put-fits _ (c .before .if1 .left) (c .before .before .before .fits .x .fits) (c .before .before .before .pre .1)))
 
--- src/lib.rt:33:20
 put-decimal-cast-buf-2 : (t : ℕ) → put-decimal-lts.Need-cast-buf-2 (
   put-decimal-below t,
   put-decimal.Post,
 ) (put-decimal-at t) put-decimal.Post
 put-decimal-cast-buf-2 t c = omega arith
 
--- src/lib.rt:33:15
 put-decimal-add-buf-2 : (t : ℕ) → put-decimal-lts.Need-add-buf-2 (
   put-decimal-below t,
   put-decimal.Post,
 ) (put-decimal-at t) put-decimal.Post
 put-decimal-add-buf-2 t c = omega arith
 
--- src/lib.rt:33:5
 put-decimal-slice-write-buf-2 : (t : ℕ) → put-decimal-lts.Need-slice-write-buf-2 (
   put-decimal-below t,
   put-decimal.Post,
 ) (put-decimal-at t) put-decimal.Post
 put-decimal-slice-write-buf-2 t c = put-room _ (c .before .before .before .before .if1 .left) (c .before .before .before .before .before .before .fits .x .fits) (c .before .before .before .before .before .before .pre .1) (c .before .before .put-decimal .ensures)
 
--- src/lib.rt:34:5
 put-decimal-add-result : (t : ℕ) → put-decimal-lts.Need-add-result (
   put-decimal-below t,
   put-decimal.Post,
 ) (put-decimal-at t) put-decimal.Post
 put-decimal-add-result t c = omega (arith, put-short _ (c .before .before .before .before .if1 .left) (c .before .before .before .before .before .before .fits .x .fits) (c .before .before .before .before .before .before .pre .1) (c .before .before .put-decimal .ensures))
 
--- src/lib.rt:24:1
 put-decimal-same-length-2 : (t : ℕ) → put-decimal-lts.Need-same-length-2 (
   put-decimal-below t,
   put-decimal.Post,
 ) (put-decimal-at t) put-decimal.Post
 put-decimal-same-length-2 t c = simp length-set (put-same _ (c .before .before .before .before .if1 .left) (c .before .before .before .before .before .before .fits .x .fits) (c .before .before .before .before .before .before .pre .1) (c .before .before .put-decimal .ensures))
 
--- src/lib.rt:24:1
 put-decimal-returns-2 : (t : ℕ) → put-decimal-lts.Need-returns-2 (
   put-decimal-below t,
   put-decimal.Post,

@@ -1,4 +1,4 @@
--- `soundness::entries::agree` meets its contract. Invariant: the result is the test over the places passed.
+-- `clauses::busy::agree` meets its contract. Invariant: the result is the test over the places passed.
 use native.Mathlib.Omega.{arith}
 use Prim.Native.Nat.{_-_, _≤_}
 use mathlib.Core.Path.{_≡_, refl, _∙_, ap}

@@ -1,4 +1,4 @@
--- `soundness::destinations::destinations_right` meets its contract. Invariant: the destinations passed are right.
+-- `clauses::destinations::destinations_right` meets its contract. Invariant: the destinations passed are right.
 use native.Mathlib.Omega.{arith}
 use Prim.Native.Nat.{_-_, _≤_}
 use mathlib.Core.Path.{_≡_, sym, _∙_}

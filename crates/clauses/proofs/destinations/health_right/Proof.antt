@@ -1,4 +1,4 @@
--- `soundness::destinations::health_right` meets its contract: by the variant.
+-- `clauses::destinations::health_right` meets its contract: by the variant.
 use mathlib.Core.Path.{sym, ap}
 use Rattle.clauses.specs.Clauses.{healthTest}
 use Rattle.rules.specs.Setup.{within}

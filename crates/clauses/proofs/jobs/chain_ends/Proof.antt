@@ -1,4 +1,4 @@
--- `soundness::jobs::chain_ends` meets its contract. Invariant: the chain from here, in the steps left, ends as the chain from the start does in 32.
+-- `clauses::jobs::chain_ends` meets its contract. Invariant: the chain from here, in the steps left, ends as the chain from the start does in 32.
 use borrow.Author.Needs.{needs}
 use native.Mathlib.Omega.{arith}
 use Prim.Native.Nat.{suc, _-_, _≤_}

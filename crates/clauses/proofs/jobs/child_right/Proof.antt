@@ -1,4 +1,4 @@
--- `soundness::jobs::child_right` meets its contract: a parent past the last job is not present.
+-- `clauses::jobs::child_right` meets its contract: a parent past the last job is not present.
 use native.Mathlib.Omega.{arith}
 use Prim.Native.Nat.{_-_}
 use mathlib.Core.Path.{sym}

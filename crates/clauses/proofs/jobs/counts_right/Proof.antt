@@ -1,4 +1,4 @@
--- `soundness::jobs::counts_right` meets its contract: the sum cannot wrap, and the rest computes.
+-- `clauses::jobs::counts_right` meets its contract: the sum cannot wrap, and the rest computes.
 use mathlib.Core.Path.{refl}
 use Rattle.clauses.specs.Clauses.{countsTest}
 use Rattle.rules.specs.Setup.{within}

@@ -1,4 +1,4 @@
--- `soundness::jobs::jobs_right` meets its contract. Invariant: the jobs passed are right.
+-- `clauses::jobs::jobs_right` meets its contract. Invariant: the jobs passed are right.
 use borrow.Author.Needs.{needs}
 use native.Mathlib.Omega.{arith}
 use Prim.Native.Nat.{_+_, _-_, _≤_}

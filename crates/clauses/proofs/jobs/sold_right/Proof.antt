@@ -1,4 +1,4 @@
--- `soundness::jobs::sold_right` meets its contract: a dear slot is refused before the product could wrap.
+-- `clauses::jobs::sold_right` meets its contract: a dear slot is refused before the product could wrap.
 use native.Mathlib.Omega.{arith}
 use mathlib.Core.Path.{sym}
 use Rattle.clauses.proofs.JobLaws.{sold-none, sold-dear, sold-fits, sold-some}

@@ -9,35 +9,27 @@ use Rattle.layout.proofs.rows.put_board.Lts as lts
 use Rattle.layout.proofs.rows.put_refusal.Reads as put-refusal-reads
 use Rattle.layout.proofs.rows.put_value.Reads as put-value-reads
 
--- src/runs.rt:111:30
 enum-known-a : tie.Need-enum-known-a
 enum-known-a c = search needs
 
--- src/runs.rt:111:36
 put-refusal-requires : tie.Need-put-refusal-requires
 put-refusal-requires c κs = search needs
 
--- src/runs.rt:112:30
 enum-known-a-2 : tie.Need-enum-known-a-2
 enum-known-a-2 c = search needs
 
--- src/runs.rt:112:36
 put-value-requires : tie.Need-put-value-requires
 put-value-requires c κs = search needs
 
--- src/runs.rt:106:1
 same-length : tie.Need-same-length
 same-length c = search needs
 
--- src/runs.rt:106:1
 returns : tie.Need-returns
 returns c = c .before .before .put-refusal .ensures ∙ sym (ap (λ x. answerRow (boardSays x)) (c .before .before .before .before .before .a .given .1))
 
--- src/runs.rt:106:1
 same-length-2 : tie.Need-same-length-2
 same-length-2 c = search needs
 
--- src/runs.rt:106:1
 returns-2 : tie.Need-returns-2
 returns-2 c = c .before .before .put-value .ensures ∙ sym (ap (λ x. answerRow (boardSays x)) (c .before .before .before .before .before .a2 .given .1))
 

@@ -10,67 +10,51 @@ use Rattle.layout.proofs.rows.put_refusal.Reads as put-refusal-reads
 use Rattle.layout.proofs.rows.put_row.Reads as put-row-reads
 use Rattle.layout.proofs.rows.put_value.Reads as put-value-reads
 
--- src/runs.rt:67:29
 enum-known-a : tie.Need-enum-known-a
 enum-known-a c = search needs
 
--- src/runs.rt:67:35
 put-refusal-requires : tie.Need-put-refusal-requires
 put-refusal-requires c κs = search needs
 
--- src/runs.rt:69:13
 enum-known-a-2 : tie.Need-enum-known-a-2
 enum-known-a-2 c = search needs
 
--- src/runs.rt:77:13
 cast-put-row : tie.Need-cast-put-row
 cast-put-row c = search needs
 
--- src/runs.rt:78:13
 cast-put-row-2 : tie.Need-cast-put-row-2
 cast-put-row-2 c = search needs
 
--- src/runs.rt:79:13
 cast-put-row-3 : tie.Need-cast-put-row-3
 cast-put-row-3 c = search needs
 
--- src/runs.rt:80:13
 cast-put-row-4 : tie.Need-cast-put-row-4
 cast-put-row-4 c = search needs
 
--- src/runs.rt:73:14
 put-row-requires : tie.Need-put-row-requires
 put-row-requires c κs = search needs
 
--- src/runs.rt:82:42
 enum-told : tie.Need-enum-told
 enum-told c = search needs
 
--- src/runs.rt:82:32
 put-value-requires : tie.Need-put-value-requires
 put-value-requires c κs = search needs
 
--- src/runs.rt:62:1
 same-length : tie.Need-same-length
 same-length c = search needs
 
--- src/runs.rt:62:1
 returns : tie.Need-returns
 returns c = c .before .before .put-refusal .ensures ∙ sym (ap (λ x. answerRow (pickSays x)) (c .before .before .before .before .before .a .given .1))
 
--- src/runs.rt:62:1
 same-length-2 : tie.Need-same-length-2
 same-length-2 c = search needs
 
--- src/runs.rt:62:1
 returns-2 : tie.Need-returns-2
 returns-2 c = c .before .before .put-row .ensures ∙ sym (ap (λ x. answerRow (pickSays x)) (c .before .before .before .before .before .a2 .given .1))
 
--- src/runs.rt:62:1
 same-length-3 : tie.Need-same-length-3
 same-length-3 c = search needs
 
--- src/runs.rt:62:1
 returns-3 : tie.Need-returns-3
 returns-3 c = c .before .before .put-value .ensures ∙ sym (ap (λ x. answerRow (pickSays x)) (c .before .before .before .before .enum-told .given .1))
 

@@ -7,35 +7,27 @@ use Rattle.layout.proofs.rows.put_row.Tie as tie
 use Rattle.layout.proofs.rows.put_row.Reads as reads
 use Rattle.layout.proofs.rows.put_row.Lts as lts
 
--- src/runs.rt:25:5
 slice-write-row : tie.Need-slice-write-row
 slice-write-row c = search needs
 
--- src/runs.rt:26:5
 slice-write-row-2 : tie.Need-slice-write-row-2
 slice-write-row-2 c = search needs
 
--- src/runs.rt:27:5
 slice-write-row-3 : tie.Need-slice-write-row-3
 slice-write-row-3 c = search needs
 
--- src/runs.rt:28:5
 slice-write-row-4 : tie.Need-slice-write-row-4
 slice-write-row-4 c = search needs
 
--- src/runs.rt:29:5
 slice-write-row-5 : tie.Need-slice-write-row-5
 slice-write-row-5 c = simp length-set (omega (arith, c .pre))
 
--- src/runs.rt:30:5
 slice-write-row-6 : tie.Need-slice-write-row-6
 slice-write-row-6 c = simp length-set (omega (arith, c .pre))
 
--- src/runs.rt:21:1
 same-length : tie.Need-same-length
 same-length c = search needs
 
--- src/runs.rt:21:1
 returns : tie.Need-returns
 returns c = row-is (c .args .row .now) _ _ _ _ _ _ (c .pre)
 

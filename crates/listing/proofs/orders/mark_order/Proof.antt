@@ -1,4 +1,4 @@
--- `soundness::orders::mark_order` meets its contract. Invariant: the places passed are marked, and differ.
+-- `listing::orders::mark_order` meets its contract. Invariant: the places passed are marked, and differ.
 use borrow.Author.Needs.{needs}
 use native.Mathlib.Omega.{arith}
 use Prim.Native.Nat.{_+_, _*_, _-_, _≤_}

@@ -1,4 +1,4 @@
--- `soundness::orders::mark_orders` meets its contract. Invariant: the orders of the jobs passed are right and marked, and the table is blank from this job on.
+-- `listing::orders::mark_orders` meets its contract. Invariant: the orders of the jobs passed are right and marked, and the table is blank from this job on.
 use borrow.Author.Needs.{needs}
 use native.Mathlib.Omega.{arith}
 use Prim.Native.Nat.{_-_, _≤_}

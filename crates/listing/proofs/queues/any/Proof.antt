@@ -1,4 +1,4 @@
--- `soundness::queues::any` meets its contract. Invariant: the result is the test over the places passed.
+-- `listing::queues::any` meets its contract. Invariant: the result is the test over the places passed.
 use native.Mathlib.Omega.{arith}
 use Prim.Native.Nat.{_-_, _≤_}
 use mathlib.Core.Path.{_≡_, refl, _∙_, ap}

@@ -1,4 +1,4 @@
--- `soundness::queues::each_once` meets its contract. Invariant: the table has the jobs that were not met in the places passed.
+-- `listing::queues::each_once` meets its contract. Invariant: the table has the jobs that were not met in the places passed.
 use borrow.Author.Needs.{needs}
 use native.Mathlib.Omega.{arith}
 use Prim.Native.Nat.{_-_, _≤_}

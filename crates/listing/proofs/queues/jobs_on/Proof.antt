@@ -1,4 +1,4 @@
--- `soundness::queues::jobs_on` meets its contract. Invariant: the places passed hold the test of their job.
+-- `listing::queues::jobs_on` meets its contract. Invariant: the places passed hold the test of their job.
 use native.Mathlib.Omega.{arith}
 use Prim.Native.Nat.{ℕ, _-_, _≤_, _<_}
 use mathlib.Core.Path.{_≡_, refl, _∙_}

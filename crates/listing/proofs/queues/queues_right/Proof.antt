@@ -1,4 +1,4 @@
--- `soundness::queues::queues_right` meets its contract. Invariant: the lists of the transports passed are right.
+-- `listing::queues::queues_right` meets its contract. Invariant: the lists of the transports passed are right.
 use borrow.Author.Needs.{needs}
 use native.Mathlib.Omega.{arith}
 use Prim.Native.Nat.{_-_, _≤_}

@@ -1,4 +1,4 @@
--- `soundness::queues::seconds_rise` meets its contract. Invariant: the places passed never fall nor pass the clock, and `last` is at most what follows where the whole list never falls.
+-- `listing::queues::seconds_rise` meets its contract. Invariant: the places passed never fall nor pass the clock, and `last` is at most what follows where the whole list never falls.
 use borrow.Author.Needs.{needs}
 use native.Mathlib.Omega.{arith}
 use Prim.Native.Nat.{_-_, _≤_}
