@@ -9,7 +9,7 @@ ghost use Rattle.rules.specs.Calls.{pickReply};
 ghost use Rattle.rules.specs.Gave.{pickGave};
 
 // The ticket after t: it rolls from 4,294,967,295 back to 0.
-pub fn next_ticket(t: u32) -> u32
+fn next_ticket(t: u32) -> u32
     ensures { λ r. ⌜ r ≡ (t + 1) % tickets ⌝ }
 {
     std::num::wrapping_add_u32(t, 1)

@@ -20,7 +20,7 @@ pub fn put(word: &[u8], buf: &mut [u8]) -> usize
 }
 
 // Puts a number's decimals there.
-pub fn put_decimal(x: u64, buf: &mut [u8]) -> usize
+fn put_decimal(x: u64, buf: &mut [u8]) -> usize
     requires { ⌜ length (decimal x) ≤ length (now buf) ⌝ }
     ensures { λ r. ⌜ Wrote (decimal x) (now (buf .entry)) (now (buf .exit)) r ⌝ }
 {
