@@ -1,4 +1,4 @@
--- The test of a set-up, and its first destinations, as the code goes about them.
+-- The test of a set-up, as the code goes about it.
 use Prim.Native.Nat.{_≤_}
 use mathlib.Core.Bool.{Bool, true, false, not, _&&_}
 use mathlib.Core.Path.{_≡_, sym, _∙_}

@@ -1,4 +1,4 @@
--- What `run` gives back: the rules' replies to the calls that it was handed, laid out as `Layout.antt` says, and demand 3 of these calls.
+-- What `run` gives back: the rules' replies to the calls that it was handed, laid out as layout/specs/Layout.antt says, and demand 3 of these calls.
 use Prim.Native.Nat.{ℕ}
 use mathlib.Core.Path.{_≡_}
 use mathlib.Core.Bool.{true}

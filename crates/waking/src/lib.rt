@@ -37,7 +37,7 @@ pub fn any_due(ds: [Destination; 32], count: u64, now: u64) -> bool
     any
 }
 
-// All destinations of a set-up in range, woken. Of a state's own this is `woken s now .destinations` (`woken-is` of proofs/).
+// All destinations of a set-up in range, woken. Of a state's own this is `woken s now .destinations` (`woken-is` in taking/proofs/Replying.antt).
 // Only what wakes is written.
 pub fn wake(ds: [Destination; 32], u: Setup, now: u64) -> [Destination; 32]
     requires { ⌜ setupInRange u ≡ true ⌝ }

@@ -78,7 +78,14 @@ belongs-requires : tie.Need-belongs-requires Inv-loop μ-loop
 belongs-requires c κs = (c .before .before .before .before .before .before .before .before .pre .0, c .before .before .before .before .before .before .before .before .pre .1 .0)
 
 returns : tie.Need-returns Inv-loop μ-loop
-returns c = (counted-not _ _ _ _ _ _ (c .before .before .before .before .before .before .before .before .before .loop .inv .0) (c .before .before .before .before .before .before .if1 .left) (c .before .before .before .before .wide .result) (c .before .before .wide2 .result) (c .before .before .before .before .wide .ensures .0) (c .before .before .wide2 .ensures .0) _ (c .before .belongs .ensures) (not-true _ (c .if2 .taken)) (omega arith) _ refl, λ g. true-not-false g refl)
+returns c = (
+  counted-not _ _ _ _ _ _ (c .before .before .before .before .before .before .before .before .before .loop .inv .0)
+      (c .before .before .before .before .before .before .if1 .left)
+      (c .before .before .before .before .wide .result) (c .before .before .wide2 .result)
+      (c .before .before .before .before .wide .ensures .0) (c .before .before .wide2 .ensures .0) _
+      (c .before .belongs .ensures) (not-true _ (c .if2 .taken)) (omega arith) _ refl,
+  λ g. true-not-false g refl,
+)
 
 mul-pairs : tie.Need-mul-pairs Inv-loop μ-loop
 mul-pairs c = omega (arith, inside (c .before))
