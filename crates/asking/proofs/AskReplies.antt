@@ -8,7 +8,7 @@ use Rattle.rules.specs.declared.State.{State}
 use Rattle.rules.specs.State.{at, isPresent}
 use Rattle.rules.specs.Sound.{sound}
 use Rattle.rules.specs.Refusals.{askRefusal}
-use Rattle.rules.specs.Calls.{refused, answers, unlessRefused, askReply}
+use Rattle.rules.specs.Calls.{refused, granted, unlessRefused, askReply}
 use Rattle.rules.proofs.Replies.{refusing-unsound}
 
 module _ (s : State) (j : ℕ) where
@@ -21,6 +21,6 @@ module _ (s : State) (j : ℕ) where
   ask-absent h p = rw (h, p) refl
 
   pub ask-answered : (sum : ℕ) → sound s ≡ true → isPresent s j ≡ true → sum ≡ at (s .jobs .overtakers) j
-      → record { says = answers (sum ∷ []); state = s; buffer = [] } ≡ askReply s j
+      → record { says = granted (sum ∷ []); state = s; buffer = [] } ≡ askReply s j
   unfolding askReply askRefusal unlessRefused if_then_else_
   ask-answered sum h p e = rw (h, p, e) refl

@@ -10,7 +10,7 @@ use Rattle.rules.specs.declared.State.{State}
 use Rattle.rules.specs.Sound.{sound}
 use Rattle.rules.specs.Board.{textOf, boardText}
 use Rattle.rules.specs.Refusals.{boardRefusal}
-use Rattle.rules.specs.Calls.{refused, answers, unlessRefused, boardReply}
+use Rattle.rules.specs.Calls.{refused, granted, unlessRefused, boardReply}
 use Rattle.rules.proofs.Replies.{refusing-unsound}
 
 module _ (s : State) (buffer : List ℕ) where
@@ -31,6 +31,6 @@ module _ (s : State) (buffer : List ℕ) where
   board-fits need e l = subst (λ n. n ≤ length buffer) e l
 
   pub board-written : (n : ℕ) (out : List ℕ) → sound s ≡ true → length text ≤ length buffer → n ≡ length text → out ≡ text ++ drop (length text) buffer
-      → record { says = answers (n ∷ []); state = s; buffer = out } ≡ boardReply s buffer
+      → record { says = granted (n ∷ []); state = s; buffer = out } ≡ boardReply s buffer
   unfolding boardReply boardRefusal boardText unlessRefused if_then_else_
   board-written n out h l e f = rw (h, le-ltb (length buffer) (length text) l, e, f) refl

@@ -12,7 +12,7 @@ use Rattle.laws.proofs.Choice.{if-true, if-same, one-within}
 use Rattle.laws.proofs.Update.{at-or-off, upd-same, upd-other, upd-below, upd-all, upd-suc}
 use Rattle.laws.proofs.Sum.{sum-eq, sum-suc, sum-if-zero, sum-if-suc, sum-grow}
 use Rattle.ceiling.specs.Columns.{Columns, ofTransport, above, beyond}
-use Rattle.ceiling.specs.Steps.{Preempting, Picking, take, preempt, pick, drop}
+use Rattle.ceiling.specs.Steps.{Preempting, Picking, addRow, preempt, pick, lessen}
 use Rattle.ceiling.proofs.Order.{Low, Order, low-self}
 
 above-true : (g : Columns) (j r : ℕ) → above g j r ≡ true → (g .transport r ≡ g .transport j) × (j < g .low r)
@@ -25,26 +25,26 @@ pub record Counts (g : Columns) : Type 0 where
   pub sums : (j : ℕ) → j < g .rows → g .upto j ≡ ofTransport g (g .transport j) (g .n) (suc j)
 
 module _ {g : Columns} (w : Low g) (c : Counts g) where
-  pub counts-take : (t k : ℕ) → Counts (take g t k)
-  counts-take t k = record {
+  pub counts-add : (t k : ℕ) → Counts (addRow g t k)
+  counts-add t k = record {
     counted = λ u. c .counted u ∙ sym (sum-grow _ _ (g .rows) (λ i l. simp upd-below) (rw (upd-same (g .picked)) (if-same _ 0)));
-    behind = at-or-off _ (g .rows) (λ l q. le-trans (le-of-eq (sum-if-zero _ _ (suc (g .rows)) new)) zero-le) (λ j h l q. rw (beyond-take j (omega arith)) (simp upd-other (c .behind j (omega arith) (simp upd-other at q))));
+    behind = at-or-off _ (g .rows) (λ l q. le-trans (le-of-eq (sum-if-zero _ _ (suc (g .rows)) new)) zero-le) (λ j h l q. rw (beyond-add j (omega arith)) (simp upd-other (c .behind j (omega arith) (simp upd-other at q))));
     bounded = at-or-off _ (g .rows) (λ l. simp upd-same (omega arith)) (λ j h l. simp upd-other (c .bounded j (omega arith)));
     sums = at-or-off _ (g .rows) (λ l. simp (upd-same, sum-suc, own) (omega (arith, if-true k 0 (eq-eqb t t refl)))) (λ j h l. simp upd-other (c .sums j (omega arith) ∙ older j (omega arith)));
   }
     where
       -- no row's low lies above the new row
-      new : (r : ℕ) → r < suc (g .rows) → above (take g t k) (g .rows) r ≡ true → (take g t k) .picked r ≡ 0
-      new = at-or-off _ (g .rows) (λ l e. upd-same _ _ _) (λ r h l e. let b = above-true (take g t k) (g .rows) r e .1 in omega (arith, simp upd-other at b, low-self w r (omega arith)))
+      new : (r : ℕ) → r < suc (g .rows) → above (addRow g t k) (g .rows) r ≡ true → (addRow g t k) .picked r ≡ 0
+      new = at-or-off _ (g .rows) (λ l e. upd-same _ _ _) (λ r h l e. let b = above-true (addRow g t k) (g .rows) r e .1 in omega (arith, simp upd-other at b, low-self w r (omega arith)))
 
-      own : sumTo (λ r. if eqb ((take g t k) .transport r) t then (take g t k) .n r else 0) (g .rows) ≡ ofTransport g t (g .n) (g .rows)
+      own : sumTo (λ r. if eqb ((addRow g t k) .transport r) t then (addRow g t k) .n r else 0) (g .rows) ≡ ofTransport g t (g .n) (g .rows)
       own = sum-eq _ _ (g .rows) (λ i l. simp upd-below)
 
-      older : (j : ℕ) → j < g .rows → ofTransport g (g .transport j) (g .n) (suc j) ≡ ofTransport (take g t k) (g .transport j) ((take g t k) .n) (suc j)
+      older : (j : ℕ) → j < g .rows → ofTransport g (g .transport j) (g .n) (suc j) ≡ ofTransport (addRow g t k) (g .transport j) ((addRow g t k) .n) (suc j)
       older j q = sum-eq _ _ (suc j) (λ i l. let b : i < g .rows = omega arith in simp upd-below)
 
-      beyond-take : (j : ℕ) → j < g .rows → beyond (take g t k) j ≡ beyond g j
-      beyond-take j q = sum-grow _ _ (g .rows) (λ i l. simp upd-below) (rw (upd-same (g .picked)) (if-same _ 0))
+      beyond-add : (j : ℕ) → j < g .rows → beyond (addRow g t k) j ≡ beyond g j
+      beyond-add j q = sum-grow _ _ (g .rows) (λ i l. simp upd-below) (rw (upd-same (g .picked)) (if-same _ 0))
 
   pub counts-preempt : {cost : ℕ → ℕ} {x y m : ℕ} → Preempting cost g x y m → Counts (preempt g x y m)
   counts-preempt {x = x} {y} {m} p = record { counted = c .counted; behind = λ j l q. rw beyond-preempt (c .behind j l q); bounded = c .bounded; sums = c .sums }
@@ -86,5 +86,5 @@ module _ {g : Columns} (w : Low g) (c : Counts g) where
         passed j l true e = let b = c .bounded j l in let s = p .same j l e in rw (s, upd-same) (omega (arith, p .some j l e, rw s at b))
         passed j l false e = omega (arith, c .bounded j l, upd-all (λ t v. g .total t ≤ v) (g .total) (g .transport x) (g .total (g .transport x) + k) (omega arith) (λ t h. le-refl _) (g .transport j))
 
-  pub counts-drop : (v : ℕ → ℕ) → ((r : ℕ) → r < g .rows → v r ≤ g .waiting r) → Counts (drop g v)
-  counts-drop v h = record { counted = c .counted; behind = λ j l q. c .behind j l (le-trans q (h j l)); bounded = c .bounded; sums = c .sums }
+  pub counts-lessen : (v : ℕ → ℕ) → ((r : ℕ) → r < g .rows → v r ≤ g .waiting r) → Counts (lessen g v)
+  counts-lessen v h = record { counted = c .counted; behind = λ j l q. c .behind j l (le-trans q (h j l)); bounded = c .bounded; sums = c .sums }

@@ -14,7 +14,7 @@ use Rattle.laws.proofs.Choice.{if-true, if-false}
 use Rattle.laws.proofs.Update.{at-or-off, upd-same, upd-other, upd-below}
 use Rattle.laws.proofs.Sum.{sum-if-zero, sum-change, sum-grow}
 use Rattle.ceiling.specs.Columns.{Columns, sold, namers}
-use Rattle.ceiling.specs.Steps.{Preempting, Picking, take, preempt, pick, drop}
+use Rattle.ceiling.specs.Steps.{Preempting, Picking, addRow, preempt, pick, lessen}
 
 -- what holds of a row r that names y
 pub record Named (cost : ℕ → ℕ) (g : Columns) (r y : ℕ) : Type 0 where
@@ -47,26 +47,26 @@ module _ {cost : ℕ → ℕ} {g : Columns} (f : Forest cost g) where
   pub unpicked-unnamed : (x : ℕ) → g .picked x ≡ 0 → (r : ℕ) → r < g .rows → g .names r ≢ suc x
   unpicked-unnamed x z r l e = let h = f .named r x l e .used in omega arith
 
-  pub sold-take : (t k y : ℕ) → sold (take g t k) y ≡ sold g y
-  sold-take t k y = sum-grow _ _ (g .rows) (λ i l. simp upd-below) (if-false _ _ (simp upd-same (ne-eqb 0 (suc y) (omega arith))))
+  pub sold-add : (t k y : ℕ) → sold (addRow g t k) y ≡ sold g y
+  sold-add t k y = sum-grow _ _ (g .rows) (λ i l. simp upd-below) (if-false _ _ (simp upd-same (ne-eqb 0 (suc y) (omega arith))))
 
   -- nobody names the new row
-  pub sold-take-new : (t k : ℕ) → sold (take g t k) (g .rows) ≡ 0
-  sold-take-new t k = sold-take t k (g .rows) ∙ unsold (g .rows) (λ r l e. let h = f .named r (g .rows) l e .inside in omega arith)
+  pub sold-add-new : (t k : ℕ) → sold (addRow g t k) (g .rows) ≡ 0
+  sold-add-new t k = sold-add t k (g .rows) ∙ unsold (g .rows) (λ r l e. let h = f .named r (g .rows) l e .inside in omega arith)
 
-  namers-take : (t k : ℕ) → namers (take g t k) ≡ namers g
-  namers-take t k = sum-grow _ _ (g .rows) (λ i l. simp upd-below) (simp upd-same (omega arith))
+  namers-add : (t k : ℕ) → namers (addRow g t k) ≡ namers g
+  namers-add t k = sum-grow _ _ (g .rows) (λ i l. simp upd-below) (simp upd-same (omega arith))
 
-  pub forest-take : (t k : ℕ) → Forest cost (take g t k)
-  forest-take t k = record {
+  pub forest-add : (t k : ℕ) → Forest cost (addRow g t k)
+  forest-add t k = record {
     room = at-or-off _ (g .rows) (λ l. simp upd-same (omega arith)) (λ r h l. simp upd-other (f .room r (omega arith)));
     fits = at-or-off _ (g .rows) (λ l. simp upd-same (omega arith)) (λ r h l. simp upd-other (f .fits r (omega arith)));
     named = at-or-off _ (g .rows) (λ y l e. let z = simp upd-same at e in omega arith) (λ r h y l e. older r y h (omega arith) (simp upd-other at e));
-    paid = at-or-off _ (g .rows) (λ l. rw sold-take-new (omega arith)) (λ y h l. rw sold-take (simp upd-other (f .paid y (omega arith))));
-    deep = at-or-off _ (g .rows) (λ l. simp upd-same (omega arith)) (λ r h l. rw namers-take (simp upd-other (f .deep r (omega arith))));
+    paid = at-or-off _ (g .rows) (λ l. rw sold-add-new (omega arith)) (λ y h l. rw sold-add (simp upd-other (f .paid y (omega arith))));
+    deep = at-or-off _ (g .rows) (λ l. simp upd-same (omega arith)) (λ r h l. rw namers-add (simp upd-other (f .deep r (omega arith))));
   }
     where
-      older : (r y : ℕ) → r ≢ g .rows → r < g .rows → g .names r ≡ suc y → Named cost (take g t k) r y
+      older : (r y : ℕ) → r ≢ g .rows → r < g .rows → g .names r ≡ suc y → Named cost (addRow g t k) r y
       older r y h l e =
           let m = f .named r y l e in
           let i : y < g .rows = m .inside in
@@ -132,8 +132,8 @@ module _ {cost : ℕ → ℕ} {g : Columns} (f : Forest cost g) where
         picked-more : (z : ℕ) → g .picked z ≤ (pick g x k past) .picked z
         picked-more = at-or-off _ x (simp upd-same (omega arith)) (λ r h. simp upd-other (le-refl _))
 
-  pub forest-drop : (w : ℕ → ℕ) → ((r : ℕ) → r < g .rows → w r ≤ g .waiting r) → Forest cost (drop g w)
-  forest-drop w h = record {
+  pub forest-lessen : (w : ℕ → ℕ) → ((r : ℕ) → r < g .rows → w r ≤ g .waiting r) → Forest cost (lessen g w)
+  forest-lessen w h = record {
     room = λ r l. omega (arith, h r l, f .room r l);
     fits = f .fits;
     named = λ r z l e. let k = f .named r z l e in record { inside = k .inside; same = k .same; dear = k .dear; used = k .used; deeper = k .deeper };

@@ -7,12 +7,12 @@ use native.Mathlib.Nat.{not-suc-le-zero}
 use native.Mathlib.Omega.{arith}
 use Rattle.laws.specs.Range.{sumTo}
 use Rattle.ceiling.specs.Columns.{Columns}
-use Rattle.ceiling.specs.Steps.{Preempting, Picking, fresh, take, preempt, pick, drop}
-use Rattle.ceiling.proofs.Forest.{Forest, forest-take, forest-preempt, forest-pick, forest-drop}
-use Rattle.ceiling.proofs.Overtaken.{Overtaken, overtaken-take, overtaken-preempt}
-use Rattle.ceiling.proofs.Order.{Low, Order, low-take, low-preempt, order-take, order-preempt, order-leave}
-use Rattle.ceiling.proofs.Counts.{Counts, counts-take, counts-preempt, counts-pick, counts-drop}
-use Rattle.ceiling.proofs.Noted.{Noted, noted-take, noted-pick}
+use Rattle.ceiling.specs.Steps.{Preempting, Picking, fresh, addRow, preempt, pick, lessen}
+use Rattle.ceiling.proofs.Forest.{Forest, forest-add, forest-preempt, forest-pick, forest-lessen}
+use Rattle.ceiling.proofs.Overtaken.{Overtaken, overtaken-add, overtaken-preempt}
+use Rattle.ceiling.proofs.Order.{Low, Order, low-add, low-preempt, order-add, order-preempt, order-leave}
+use Rattle.ceiling.proofs.Counts.{Counts, counts-add, counts-preempt, counts-pick, counts-lessen}
+use Rattle.ceiling.proofs.Noted.{Noted, noted-add, noted-pick}
 
 pub record Inv (cost : ℕ → ℕ) (g : Columns) (Ahead : ℕ → ℕ → Type 0) : Type 0 where
   pub forest : Forest cost g
@@ -34,14 +34,14 @@ inv-fresh cost none = record {
 }
 
 module _ {cost : ℕ → ℕ} {g : Columns} {Ahead Ahead' : ℕ → ℕ → Type 0} (i : Inv cost g Ahead) where
-  pub inv-take : (t k : ℕ) → ((a b : ℕ) → Ahead' a b → Ahead a b ⊎ ((b ≡ g .rows) × (a < g .rows))) → Inv cost (take g t k) Ahead'
-  inv-take t k h = record {
-    forest = forest-take (i .forest) t k;
-    overtaken = overtaken-take (i .forest) (i .overtaken) t k;
-    low = low-take (i .forest) (i .low) t k;
-    order = order-take (i .forest) (i .low) (i .order) t k h;
-    counts = counts-take (i .low) (i .counts) t k;
-    noted = noted-take (i .noted) t k;
+  pub inv-add : (t k : ℕ) → ((a b : ℕ) → Ahead' a b → Ahead a b ⊎ ((b ≡ g .rows) × (a < g .rows))) → Inv cost (addRow g t k) Ahead'
+  inv-add t k h = record {
+    forest = forest-add (i .forest) t k;
+    overtaken = overtaken-add (i .forest) (i .overtaken) t k;
+    low = low-add (i .forest) (i .low) t k;
+    order = order-add (i .forest) (i .low) (i .order) t k h;
+    counts = counts-add (i .low) (i .counts) t k;
+    noted = noted-add (i .noted) t k;
   }
 
   pub inv-preempt : {x y m : ℕ} → Preempting cost g x y m → ((a b : ℕ) → Ahead' a b → Ahead a b ⊎ ((a ≡ x) × ((b ≡ y) ⊎ Ahead y b))) → Inv cost (preempt g x y m) Ahead'
@@ -68,12 +68,12 @@ module _ {cost : ℕ → ℕ} {g : Columns} {Ahead : ℕ → ℕ → Type 0} (i 
     noted = noted-pick (i .noted) (i .forest) (i .low) (i .counts) (i .order) p;
   }
 
-  pub inv-drop : (w : ℕ → ℕ) → ((r : ℕ) → r < g .rows → w r ≤ g .waiting r) → Inv cost (drop g w) Ahead
-  inv-drop w h = record {
-    forest = forest-drop (i .forest) w h;
+  pub inv-lessen : (w : ℕ → ℕ) → ((r : ℕ) → r < g .rows → w r ≤ g .waiting r) → Inv cost (lessen g w) Ahead
+  inv-lessen w h = record {
+    forest = forest-lessen (i .forest) w h;
     overtaken = record { sums = i .overtaken .sums; paid = i .overtaken .paid };
     low = record { alone = i .low .alone; under = i .low .under };
     order = record { within = i .order .within; below = i .order .below };
-    counts = counts-drop (i .low) (i .counts) w h;
+    counts = counts-lessen (i .low) (i .counts) w h;
     noted = record { ceiling = i .noted .ceiling; bounded = i .noted .bounded };
   }

@@ -5,7 +5,7 @@ use mathlib.Core.Bool.{Bool}
 use native.Mathlib.Omega.{arith}
 use Rattle.laws.proofs.Update.{at-or-off, upd-same, upd-other}
 use Rattle.ceiling.specs.Columns.{Columns}
-use Rattle.ceiling.specs.Steps.{Picking, take, pick}
+use Rattle.ceiling.specs.Steps.{Picking, addRow, pick}
 use Rattle.ceiling.proofs.Forest.{Forest, forest-pick}
 use Rattle.ceiling.proofs.Order.{Low, Order}
 use Rattle.ceiling.proofs.Counts.{Counts, counts-pick, beyond-pick-self}
@@ -16,8 +16,8 @@ pub record Noted (cost : ℕ → ℕ) (g : Columns) : Type 0 where
   pub bounded : (j : ℕ) → j < g .rows → g .lastBlocked j ≤ g .lastTotal j
 
 module _ {cost : ℕ → ℕ} {g : Columns} (n : Noted cost g) where
-  pub noted-take : (t k : ℕ) → Noted cost (take g t k)
-  noted-take t k = record {
+  pub noted-add : (t k : ℕ) → Noted cost (addRow g t k)
+  noted-add t k = record {
     ceiling = at-or-off _ (g .rows) (λ l. simp upd-same (record { dear = λ d. zero-le; free = λ z. zero-le })) (λ j h l. simp upd-other (n .ceiling j (omega arith)));
     bounded = at-or-off _ (g .rows) (λ l. simp upd-same (omega arith)) (λ j h l. simp upd-other (n .bounded j (omega arith)));
   }

@@ -7,7 +7,7 @@ use native.Mathlib.Decide.{decLt}
 use native.Mathlib.Omega.{arith}
 use Rattle.laws.proofs.Update.{at-or-off, upd-same, upd-other, upd-below, upd-all}
 use Rattle.ceiling.specs.Columns.{Columns}
-use Rattle.ceiling.specs.Steps.{Preempting, take, preempt}
+use Rattle.ceiling.specs.Steps.{Preempting, addRow, preempt}
 use Rattle.ceiling.proofs.Forest.{Forest, used-other}
 
 -- low is the least row along the names
@@ -31,13 +31,13 @@ pub order-leave : {g : Columns} {Ahead Ahead' : ℕ → ℕ → Type 0} → Orde
 order-leave o h = record { within = λ a b q. o .within a b (h a b q); below = λ a b q. o .below a b (h a b q) }
 
 module _ {cost : ℕ → ℕ} {g : Columns} (f : Forest cost g) (w : Low g) where
-  pub low-take : (t k : ℕ) → Low (take g t k)
-  low-take t k = record {
+  pub low-add : (t k : ℕ) → Low (addRow g t k)
+  low-add t k = record {
     alone = at-or-off _ (g .rows) (λ l e. simp upd-same) (λ r h l e. simp upd-other (w .alone r (omega arith) (simp upd-other at e)));
     under = at-or-off _ (g .rows) (λ y l e. let z = simp upd-same at e in omega arith) (λ r h y l e. older r y (omega arith) (simp upd-other at e));
   }
     where
-      older : (r y : ℕ) → r < g .rows → g .names r ≡ suc y → (take g t k) .low r ≡ min r ((take g t k) .low y)
+      older : (r y : ℕ) → r < g .rows → g .names r ≡ suc y → (addRow g t k) .low r ≡ min r ((addRow g t k) .low y)
       older r y l e = let i : y < g .rows = f .named r y l e .inside in simp upd-below (w .under r y l e)
 
   module _ {x y m : ℕ} (p : Preempting cost g x y m) where
@@ -58,14 +58,14 @@ module _ {cost : ℕ → ℕ} {g : Columns} (f : Forest cost g) (w : Low g) wher
 
   module _ {Ahead Ahead' : ℕ → ℕ → Type 0} (o : Order g Ahead) where
     -- a new row goes to the end
-    pub order-take : (t k : ℕ) → ((a b : ℕ) → Ahead' a b → Ahead a b ⊎ ((b ≡ g .rows) × (a < g .rows))) → Order (take g t k) Ahead'
-    order-take t k h = record { within = λ a b q. inside a b (h a b q); below = λ a b q l. low a b l (h a b q) }
+    pub order-add : (t k : ℕ) → ((a b : ℕ) → Ahead' a b → Ahead a b ⊎ ((b ≡ g .rows) × (a < g .rows))) → Order (addRow g t k) Ahead'
+    order-add t k h = record { within = λ a b q. inside a b (h a b q); below = λ a b q l. low a b l (h a b q) }
       where
         inside : (a b : ℕ) → Ahead a b ⊎ ((b ≡ g .rows) × (a < g .rows)) → (a < suc (g .rows)) × (b < suc (g .rows))
         inside a b (inl q) = let i = o .within a b q in omega arith
         inside a b (inr q) = omega arith
 
-        low : (a b : ℕ) → b < a → Ahead a b ⊎ ((b ≡ g .rows) × (a < g .rows)) → (take g t k) .low a ≤ b
+        low : (a b : ℕ) → b < a → Ahead a b ⊎ ((b ≡ g .rows) × (a < g .rows)) → (addRow g t k) .low a ≤ b
         low a b l (inl q) = let i : a < g .rows = o .within a b q .0 in simp upd-below (o .below a b q l)
         low a b l (inr q) = omega arith
 

@@ -14,7 +14,7 @@ use Rattle.laws.proofs.Choice.{if-true, if-false}
 use Rattle.laws.proofs.Update.{at-or-off, upd-same, upd-other, upd-below, upd-all}
 use Rattle.laws.proofs.Sum.{sum-le, sum-add, sum-mul, sum-if-le, sum-if-zero, sum-change, sum-grow}
 use Rattle.ceiling.specs.Columns.{Columns, bought}
-use Rattle.ceiling.specs.Steps.{Preempting, overtake, take, preempt}
+use Rattle.ceiling.specs.Steps.{Preempting, overtake, addRow, preempt}
 use Rattle.ceiling.proofs.Forest.{Forest, named-sum, unpicked-unnamed, used-other, forest-preempt}
 
 pub record Overtaken (cost : ℕ → ℕ) (g : Columns) (over : ℕ → ℕ) : Type 0 where
@@ -86,14 +86,14 @@ module _ {cost : ℕ → ℕ} {g : Columns} (f : Forest cost g) where
       walk m n (g .names z) (overtake m z over) (overtaken-more over o m z (k .0) (k .1)) (next-more over o m z (k .0) (k .1))
 
 module _ {cost : ℕ → ℕ} {g : Columns} (f : Forest cost g) (o : Overtaken cost g (g .over)) where
-  pub overtaken-take : (t k : ℕ) → Overtaken cost (take g t k) ((take g t k) .over)
-  overtaken-take t k = record {
-    sums = at-or-off _ (g .rows) (λ l. simp upd-same (omega arith)) (λ y h l. rw bought-take (simp upd-other (o .sums y (omega arith))));
+  pub overtaken-add : (t k : ℕ) → Overtaken cost (addRow g t k) ((addRow g t k) .over)
+  overtaken-add t k = record {
+    sums = at-or-off _ (g .rows) (λ l. simp upd-same (omega arith)) (λ y h l. rw bought-add (simp upd-other (o .sums y (omega arith))));
     paid = at-or-off _ (g .rows) (λ l. simp upd-same (omega arith)) (λ y h l. simp upd-other (o .paid y (omega arith)));
   }
     where
-      bought-take : (y : ℕ) → bought (take g t k) ((take g t k) .over) y ≡ bought g (g .over) y
-      bought-take y = sum-grow _ _ (g .rows) (λ i l. simp upd-below) (if-false _ _ (simp upd-same (ne-eqb 0 (suc y) (omega arith))))
+      bought-add : (y : ℕ) → bought (addRow g t k) ((addRow g t k) .over) y ≡ bought g (g .over) y
+      bought-add y = sum-grow _ _ (g .rows) (λ i l. simp upd-below) (if-false _ _ (simp upd-same (ne-eqb 0 (suc y) (omega arith))))
 
   pub overtaken-preempt : {x y m : ℕ} → Preempting cost g x y m → Overtaken cost (preempt g x y m) ((preempt g x y m) .over)
   overtaken-preempt {x} {y} {m} p = walk (forest-preempt f p) m (g .rows) (suc y) (g .over) start (λ z e. subst (λ z. (z < g .rows) × (g .over z + m ≤ bought (preempt g x y m) (g .over) z)) (suc-inj e) (p .other, room))

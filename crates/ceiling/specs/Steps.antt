@@ -30,8 +30,8 @@ fresh = record {
 }
 
 -- a new row of transport t with k entries
-abbrev pub take : Columns → ℕ → ℕ → Columns
-take g t k = record {
+abbrev pub addRow : Columns → ℕ → ℕ → Columns
+addRow g t k = record {
   rows = suc (g .rows);
   transport = upd (g .transport) (g .rows) t;
   n = upd (g .n) (g .rows) k;
@@ -120,8 +120,8 @@ pick g x k past = record {
 }
 
 -- fewer entries waiting
-abbrev pub drop : Columns → (ℕ → ℕ) → Columns
-drop g w = record {
+abbrev pub lessen : Columns → (ℕ → ℕ) → Columns
+lessen g w = record {
   rows = g .rows;
   transport = g .transport;
   n = g .n;

@@ -1,2 +1,2 @@
 pub mod PairLaws
-pub mod TallyLaws
+pub mod EntryLaws

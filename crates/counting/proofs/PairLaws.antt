@@ -15,7 +15,7 @@ use Rattle.laws.proofs.Sum.{sum-eq, sum-zero, sum-add, sum-change}
 use Rattle.laws.proofs.Count.{count-le-bound}
 use Rattle.laws.proofs.Columns.{set-more}
 use Rattle.rules.specs.State.{at}
-use Rattle.counting.specs.Counting.{tallyTo, Counts}
+use Rattle.counting.specs.Counting.{countsTo, Counts}
 
 -- to the first d places of a table of 32 something is added
 pub record Added (f : ℕ → ℕ) (before after : List ℕ) (d : ℕ) : Type 0 where
@@ -83,28 +83,28 @@ module _ (p q : ℕ → Bool) (key index place : ℕ → ℕ) where
 -- the table of jobs and destinations after n entries
 module _ (kind job destination table : List ℕ) (n : ℕ) (s : Counts kind 1 (λ e. 32 * at job e + at destination e) 1024 n table)
     (inside : (e : ℕ) → e < n → at kind e ≡ 1 → (at job e < 32) × (at destination e < 32)) where
-  pub row-is : (j : ℕ) → j < 32 → sumTo (λ d. at table (32 * j + d)) 32 ≡ tallyTo kind 1 (at job) n j
-  unfolding tallyTo
+  pub row-is : (j : ℕ) → j < 32 → sumTo (λ d. at table (32 * j + d)) 32 ≡ countsTo kind 1 (at job) n j
+  unfolding countsTo
   row-is j l =
-      sum-eq (λ d. at table (32 * j + d)) (λ d. tallyTo kind 1 (λ e. 32 * at job e + at destination e) n (32 * j + d)) 32
+      sum-eq (λ d. at table (32 * j + d)) (λ d. countsTo kind 1 (λ e. 32 * at job e + at destination e) n (32 * j + d)) 32
       (λ d m. s .counts (32 * j + d) (omega arith))
       ∙ count-line (λ e. eqb (at kind e) 1) (λ e. eqb (at job e) j) (λ e. 32 * at job e + at destination e) (at destination) (λ d. 32 * j + d) n
       (λ e m t. inside e m (eqb-true (at kind e) 1 t) .1)
       (λ e m t d b. pair-test (at job e) (at destination e) j d (inside e m (eqb-true (at kind e) 1 t) .1) b)
 
-  pub column-is : (d : ℕ) → d < 32 → sumTo (λ j. at table (32 * j + d)) 32 ≡ tallyTo kind 1 (at destination) n d
-  unfolding tallyTo
+  pub column-is : (d : ℕ) → d < 32 → sumTo (λ j. at table (32 * j + d)) 32 ≡ countsTo kind 1 (at destination) n d
+  unfolding countsTo
   column-is d l =
-      sum-eq (λ j. at table (32 * j + d)) (λ j. tallyTo kind 1 (λ e. 32 * at job e + at destination e) n (32 * j + d)) 32
+      sum-eq (λ j. at table (32 * j + d)) (λ j. countsTo kind 1 (λ e. 32 * at job e + at destination e) n (32 * j + d)) 32
       (λ j m. s .counts (32 * j + d) (omega arith))
       ∙ count-line (λ e. eqb (at kind e) 1) (λ e. eqb (at destination e) d) (λ e. 32 * at job e + at destination e) (at job) (λ j. 32 * j + d) n
       (λ e m t. inside e m (eqb-true (at kind e) 1 t) .0)
       (λ e m t j b. pair-test (at job e) (at destination e) j d (inside e m (eqb-true (at kind e) 1 t) .1) l ∙ and-comm (eqb (at job e) j) (eqb (at destination e) d))
 
   pub row-fits : (j : ℕ) → j < 32 → sumTo (λ d. at table (32 * j + d)) 32 ≤ n
-  unfolding tallyTo
+  unfolding countsTo
   row-fits j l = omega (arith, row-is j l, count-le-bound (λ e. eqb (at kind e) 1 && eqb (at job e) j) n)
 
   pub column-fits : (d : ℕ) → d < 32 → sumTo (λ j. at table (32 * j + d)) 32 ≤ n
-  unfolding tallyTo
+  unfolding countsTo
   column-fits d l = omega (arith, column-is d l, count-le-bound (λ e. eqb (at kind e) 1 && eqb (at destination e) d) n)

@@ -6,11 +6,11 @@ ghost use Prim.Native.Nat.{ℕ, _+_, _*_, _≤_, _<_};
 ghost use lib.ListN.{length};
 ghost use Rattle.laws.specs.Range.{sumTo};
 ghost use Rattle.rules.specs.State.{at};
-ghost use Rattle.counting.specs.Counting.{belongsAt, columns, Tallied, Paired};
+ghost use Rattle.counting.specs.Counting.{belongsAt, columns, RightCounts, noPairs, Pairs};
 
 // What the pass over the entries counts: waiting and busy entries of each job, waiting and busy ones to each destination, busy ones on each
-// transport. Nothing is said of the counts where an entry is not good.
-pub struct Tally {
+// transport; zeros where an entry is not good.
+pub struct EntryCounts {
     pub good: bool,
     pub waiting: [u16; 32],
     pub busy: [u16; 32],
@@ -107,7 +107,8 @@ fn belongs<'b>(
 }
 
 // One pass over the entries: whether each is free, or waiting or busy, of a present job whose order has its destination, on the destination's
-// transport; and the counts. The table of zeros becomes that of the waiting entries of each job to each destination: d of job j at 32 * j + d.
+// transport; and the counts. The table of zeros becomes that of the waiting entries of each job to each destination, d of job j at 32 * j + d; it is left
+// as it came where an entry is not good.
 pub fn count_entries<'a, 'b>(
     kind: &'a [u8; 512],
     job: &'a [u8; 512],
@@ -118,13 +119,12 @@ pub fn count_entries<'a, 'b>(
     destinations: usize,
     marked: &[bool; 8192],
     pairs: &mut [u16; 1024],
-) -> Tally
+) -> EntryCounts
     requires { ⌜ destinations ≤ 32 ⌝ }
     requires { ⌜ length (now present) ≡ 32 ⌝ }
     requires { ⌜ ((d : ℕ) → d < destinations → at (now home) d < 4) ⌝ }
-    requires { ⌜ length (now pairs) ≡ 1024 ⌝ }
-    requires { ⌜ ((k : ℕ) → k < 1024 → at (now pairs) k ≡ 0) ⌝ }
-    ensures tally { λ r. ⌜ Tallied
+    requires { ⌜ now pairs ≡ noPairs ⌝ }
+    ensures counts { λ r. ⌜ RightCounts
         (columns
         (now (kind .entry))
         (now (job .entry))
@@ -135,7 +135,7 @@ pub fn count_entries<'a, 'b>(
         destinations
         (now (marked .entry)))
         r ⌝ }
-    ensures pairs { λ r. ⌜ (r .good ≡ true → Paired (now (kind .entry)) (now (job .entry)) (now (destination .entry)) (now (pairs .exit))) ⌝ }
+    ensures pairs { λ r. ⌜ Pairs (r .good) (now (kind .entry)) (now (job .entry)) (now (destination .entry)) (now (pairs .exit)) ⌝ }
 {
     let mut busy = [0u16; 32];
     let mut to = [0u16; 32];
@@ -151,13 +151,14 @@ pub fn count_entries<'a, 'b>(
         let d = wide(destination[e]);
         let right = (k <= 2) & belongs(j, d, present, transport, home, destinations, marked);
         if !right {
-            return Tally {
+            *pairs = [0u16; 1024];
+            return EntryCounts {
                 good: false,
                 waiting: [0u16; 32],
-                busy,
+                busy: [0u16; 32],
                 held: [0u16; 32],
-                to,
-                on,
+                to: [0u16; 32],
+                on: [0u16; 4],
             };
         }
         if k == 1 {
@@ -173,7 +174,7 @@ pub fn count_entries<'a, 'b>(
     }
     let waiting = row_sums(pairs);
     let held = column_sums(pairs);
-    Tally {
+    EntryCounts {
         good: true,
         waiting,
         busy,

@@ -20,7 +20,7 @@ use Rattle.rules.specs.SoundFacts.{Sound}
 use Rattle.rules.specs.Picking.{hasRoom, hasAgent, eligible, eligibleOf, eligibleTo, hasEligible}
 use Rattle.rules.proofs.Shape.{Shaped}
 use Rattle.rules.proofs.EntryFacts.{present-below, waiting-used, eligible-of-eligible, eligible-of-job, eligible-sound}
-use Rattle.counting.specs.Counting.{tallyTo, Paired}
+use Rattle.counting.specs.Counting.{countsTo, Paired}
 use Rattle.counting.proofs.PairLaws.{pair-test}
 use Rattle.eligibility.specs.Eligibility.{isOpen, waitsIn, openPair, openTo, readyIn, waitsFor}
 use Rattle.eligibility.specs.Eligibility.{Reads, openPlace}
@@ -67,7 +67,7 @@ module _ (w : State) (shape : Shaped w) (h : Sound w) (room : List Bool) (rooms 
         ∙ sym (and-left-false (eqb (destinationOf w e) d) (and-left-false (eqb (jobOf w e) j) f)))
 
     some-waits : (j d : ℕ) → j < 32 → d < 32 → ltb 0 (at pairs (32 * j + d)) ≡ anyTo (waitsFor (w .entries .kind) (w .entries .job) (w .entries .destination) j d) 512
-    unfolding tallyTo
+    unfolding countsTo
     some-waits j d a b =
         ap (ltb 0) (paired .counts (32 * j + d) (omega arith))
         ∙ sym (count-any (λ e. isWaiting w e && eqb (32 * jobOf w e + destinationOf w e) (32 * j + d)) 512)
@@ -127,9 +127,9 @@ module _ (w : State) (shape : Shaped w) (h : Sound w) (room : List Bool) (rooms 
         (let s = eligible-sound w h e l (eligible-of-eligible w j e t) in
         omega (arith, a, present-below w shape j (subst (λ x. isPresent w x ≡ true) (eligible-of-job w j e t) (s .present))))))
 
-    pub tally-reads : (waits : List ℕ) → ((j : ℕ) → j < 256 → at waits j ≡ countTo (waitsIn (w .entries .kind) (w .entries .job) j) 512) → Reads w waits (readyIn pairs room)
+    pub pairs-read : (waits : List ℕ) → ((j : ℕ) → j < 256 → at waits j ≡ countTo (waitsIn (w .entries .kind) (w .entries .job) j) 512) → Reads w waits (readyIn pairs room)
     unfolding waitingOf waitsOf waitsIn
-    tally-reads waits a =
+    pairs-read waits a =
         record {
           waiting = a;
           eligible = λ j l. elim (decLt j 32) [

@@ -63,19 +63,19 @@ answerRow a =
     a .refusal ∷ length (a .values) ∷ getD (a .values) 0 0 ∷ getD (a .values) 1 0 ∷ getD (a .values) 2 0 ∷ getD (a .values) 3 0 ∷ []
 
 -- the closing contents of the put-off list, and of the board's buffer, where the call was lent one
-unfoldable pub listOf : Call → Reply → List ℕ
-listOf (job now t dests list) r = r .buffer
-listOf (pick now) r = []
-listOf (report now e ticket outcome list) r = r .buffer
-listOf (ask j) r = []
-listOf (board buffer) r = []
+unfoldable pub listAdded : Call → Reply → List ℕ
+listAdded (job now t dests list) r = r .buffer
+listAdded (pick now) r = []
+listAdded (report now e ticket outcome list) r = r .buffer
+listAdded (ask j) r = []
+listAdded (board buffer) r = []
 
-unfoldable pub textOf : Call → Reply → List ℕ
-textOf (job now t dests list) r = []
-textOf (pick now) r = []
-textOf (report now e ticket outcome list) r = []
-textOf (ask j) r = []
-textOf (board buffer) r = r .buffer
+unfoldable pub textAdded : Call → Reply → List ℕ
+textAdded (job now t dests list) r = []
+textAdded (pick now) r = []
+textAdded (report now e ticket outcome list) r = []
+textAdded (ask j) r = []
+textAdded (board buffer) r = r .buffer
 
 -- Why a run ends before the call at the front: 1 there is none; 2 the list is cut short; 3 its kind is unknown; 4 a slice has no room for its
 -- answer or its buffer. 0: it does not end. The rooms are the places left for answers, for lists and for texts.

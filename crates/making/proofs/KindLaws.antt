@@ -12,7 +12,7 @@ use Rattle.rules.specs.declared.Outcome.{Outcome}
 use Rattle.rules.specs.declared.Outcome.the-variants
 use Rattle.rules.specs.Calls.{job, pick, report, ask, board, jobReply, pickReply, reportReply, askReply, boardReply, replyTo}
 use Rattle.layout.specs.Layout.{word, headOf, listPlaces, textPlaces, callOf}
-use Rattle.layout.specs.Layout.{listOf, textOf}
+use Rattle.layout.specs.Layout.{listAdded, textAdded}
 use Rattle.making.specs.Making.{Made, Lent, Answered}
 use Rattle.layout.proofs.LayoutLaws.{nonzero, size-is, head-job, tail-job}
 
@@ -46,11 +46,11 @@ module _ {words row list text : List ℕ} (lent : Lent words row list text) wher
         → word words 0 ≡ 1
         → Made (jobReply s (word words 1) (word words 2) (take (word words 4) (drop 5 words)) list) state row2 list2
         → Answered s (callOf words list text) state row2 list2 text
-    unfolding callOf replyTo listOf textOf if_then_else_
+    unfolding callOf replyTo listAdded textAdded if_then_else_
     answered-job h m = rw h (record { left = m .left; said = m .said; listed = m .wrote; told = no-text 1 h refl })
 
     pub answered-pick : word words 0 ≡ 2 → Made (pickReply s (word words 1)) state row2 [] → Answered s (callOf words list text) state row2 list text
-    unfolding callOf replyTo listOf textOf if_then_else_
+    unfolding callOf replyTo listAdded textAdded if_then_else_
     answered-pick h m = rw h (record { left = m .left; said = m .said; listed = no-list 2 h refl; told = no-text 2 h refl })
 
     pub answered-success :
@@ -58,7 +58,7 @@ module _ {words row list text : List ℕ} (lent : Lent words row list text) wher
         → word words 0 ≡ 3
         → Made (reportReply s (word words 1) (word words 2) (word words 3) Outcome.Success list) state row2 list2
         → Answered s (callOf words list text) state row2 list2 text
-    unfolding callOf replyTo listOf textOf if_then_else_
+    unfolding callOf replyTo listAdded textAdded if_then_else_
     answered-success h m = rw h (record { left = m .left; said = m .said; listed = m .wrote; told = no-text 3 h refl })
 
     pub answered-failure :
@@ -66,13 +66,13 @@ module _ {words row list text : List ℕ} (lent : Lent words row list text) wher
         → word words 0 ≡ 4
         → Made (reportReply s (word words 1) (word words 2) (word words 3) Outcome.Failure list) state row2 list2
         → Answered s (callOf words list text) state row2 list2 text
-    unfolding callOf replyTo listOf textOf if_then_else_
+    unfolding callOf replyTo listAdded textAdded if_then_else_
     answered-failure h m = rw h (record { left = m .left; said = m .said; listed = m .wrote; told = no-text 4 h refl })
 
     pub answered-ask : word words 0 ≡ 5 → Made (askReply s (word words 1)) state row2 [] → Answered s (callOf words list text) state row2 list text
-    unfolding callOf replyTo listOf textOf if_then_else_
+    unfolding callOf replyTo listAdded textAdded if_then_else_
     answered-ask h m = rw h (record { left = m .left; said = m .said; listed = no-list 5 h refl; told = no-text 5 h refl })
 
     pub answered-board : {text2 : List ℕ} → word words 0 ≡ 6 → Made (boardReply s text) state row2 text2 → Answered s (callOf words list text) state row2 list text2
-    unfolding callOf replyTo listOf textOf if_then_else_
+    unfolding callOf replyTo listAdded textAdded if_then_else_
     answered-board h m = rw h (record { left = m .left; said = m .said; listed = no-list 6 h refl; told = m .wrote })

@@ -6,7 +6,7 @@ use lib.ListN.{length}
 use Rattle.rules.specs.declared.State.{State}
 use Rattle.rules.specs.Calls.{Reply, Call, replyTo}
 use Rattle.layout.specs.Layout.{rowLength, word, headOf, sizeOf, listPlaces, textPlaces, answerRow}
-use Rattle.layout.specs.Layout.{listOf, textOf}
+use Rattle.layout.specs.Layout.{listAdded, textAdded}
 
 -- the state handed on, the answer's row and the lent buffer are the reply's
 pub record Made (r : Reply) (state : State) (row buffer : List ℕ) : Type 0 where
@@ -26,5 +26,5 @@ pub record Lent (words row list text : List ℕ) : Type 0 where
 pub record Answered (s : State) (call : Call) (state : State) (row list text : List ℕ) : Type 0 where
   pub left : state ≡ replyTo s call .state
   pub said : row ≡ answerRow (replyTo s call .says)
-  pub listed : list ≡ listOf call (replyTo s call)
-  pub told : text ≡ textOf call (replyTo s call)
+  pub listed : list ≡ listAdded call (replyTo s call)
+  pub told : text ≡ textAdded call (replyTo s call)

@@ -30,7 +30,7 @@ use Rattle.rules.specs.Picking.{finds, nextTransport, currentJob, passedOver, n
 use Rattle.rules.specs.Preemption.{preempting, preemptorOf}
 use Rattle.rules.specs.Pick.{handedOut, pickFrom, pickWith, pickOn, picking}
 use Rattle.rules.specs.Refusals.{pickRefusal}
-use Rattle.rules.specs.Calls.{answers, pickingReply, afterPick}
+use Rattle.rules.specs.Calls.{granted, pickingReply, afterPick}
 use Rattle.rules.proofs.Shape.{Shaped}
 use Rattle.rules.proofs.RangeFacts.{in-range-of}
 use Rattle.rules.proofs.Soundness.{sound-facts}
@@ -131,7 +131,7 @@ may-preempt w now t y x shaped whole lane cur p =
 -- what was chosen, where something was found
 
 module _ (w : State) (now : ℕ) (c : Choice) (e : c ≡ choiceOf w now) where
-  pub nothing-found : c .found ≡ false → record { says = answers (0 ∷ []); state = w; buffer = [] } ≡ afterPick w now
+  pub nothing-found : c .found ≡ false → record { says = granted (0 ∷ []); state = w; buffer = [] } ≡ afterPick w now
   unfolding afterPick choiceOf if_then_else_
   nothing-found f = case-bool (finds w) (λ t. true-not-false (sym (found-is t)) f) (λ n. rw n refl)
     where
@@ -149,7 +149,7 @@ module _ (w : State) (now : ℕ) (c : Choice) (e : c ≡ choiceOf w now) where
 -- From the current job.
 
 module _ (w : State) (now t y : ℕ) (f : finds w ≡ true) (et : t ≡ nextTransport w) (ey : y ≡ currentJob w t) (none : preemptorOf w now t y ≡ 0) where
-  plain-reply : record { says = answers (y ∷ nextEntry w y ∷ w .ticket ∷ passedOver w t y ∷ []); state = handedOut w t y (nextPlace w y) (nextEntry w y); buffer = [] }
+  plain-reply : record { says = granted (y ∷ nextEntry w y ∷ w .ticket ∷ passedOver w t y ∷ []); state = handedOut w t y (nextPlace w y) (nextEntry w y); buffer = [] }
       ≡ afterPick w now
   unfolding afterPick pickingReply picking pickOn pickWith pickFrom if_then_else_
   plain-reply = rw (f, ← et, ← ey, none) refl
@@ -160,7 +160,7 @@ module _ (w : State) (now t y x : ℕ) (f : finds w ≡ true) (et : t ≡ nextTr
   abbrev moved : State
   moved = preempting w t x y (waitingOf w x)
 
-  moved-reply : record { says = answers (x ∷ nextEntry w x ∷ w .ticket ∷ passedOver w t y ∷ []); state = handedOut moved t x (nextPlace w x) (nextEntry w x); buffer = [] }
+  moved-reply : record { says = granted (x ∷ nextEntry w x ∷ w .ticket ∷ passedOver w t y ∷ []); state = handedOut moved t x (nextPlace w x) (nextEntry w x); buffer = [] }
       ≡ afterPick w now
   unfolding afterPick pickingReply picking pickOn pickWith pickFrom if_then_else_
   moved-reply = rw (f, ← et, ← ey, some, preempting-place w t x y (waitingOf w x) x, preempting-entry w t x y (waitingOf w x) x) refl
@@ -184,7 +184,7 @@ module _ (w : State) (now : ℕ) (c : Choice) (e : c ≡ choiceOf w now) (shaped
   Handed c from =
       MayHandOut from (c .transport) (c .job) (c .place) (c .entry)
       × (record {
-        says = answers (c .job ∷ c .entry ∷ w .ticket ∷ c .passed ∷ []);
+        says = granted (c .job ∷ c .entry ∷ w .ticket ∷ c .passed ∷ []);
         state = handedOut from (c .transport) (c .job) (c .place) (c .entry);
         buffer = [];
       } ≡ afterPick w now)
@@ -248,7 +248,7 @@ module _ (s : State) (now : ℕ) (r : Ready s now) (w : State) (p : w ≡ woken 
   after-is = ap (λ w. afterPick w now) p
 
   module _ (c : Choice) (e : c ≡ choiceOf w now) where
-    pub gives-nothing : c .found ≡ false → record { says = answers (0 ∷ []); state = w; buffer = [] } ≡ afterPick (woken s now) now
+    pub gives-nothing : c .found ≡ false → record { says = granted (0 ∷ []); state = w; buffer = [] } ≡ afterPick (woken s now) now
     gives-nothing f = nothing-found w now c e f ∙ after-is
 
     module _ (f : c .found ≡ true) where
@@ -256,7 +256,7 @@ module _ (s : State) (now : ℕ) (r : Ready s now) (w : State) (p : w ≡ woken 
       may-hand-plain z = pick-plain w now c e own-shape own-sound f z .0
 
       pub gives-plain : (out : State) → c .preemptor ≡ 0 → out ≡ handedOut w (c .transport) (c .job) (c .place) (c .entry)
-          → record { says = answers (c .job ∷ c .entry ∷ w .ticket ∷ c .passed ∷ []); state = out; buffer = [] } ≡ afterPick (woken s now) now
+          → record { says = granted (c .job ∷ c .entry ∷ w .ticket ∷ c .passed ∷ []); state = out; buffer = [] } ≡ afterPick (woken s now) now
       gives-plain out z q = rw q (pick-plain w now c e own-shape own-sound f z .1 ∙ after-is)
 
       pub may-move : (c .preemptor ≡ 0 → ⊥) → MayPreempt w (c .transport) (c .job) (c .current) (c .waiting)
@@ -268,6 +268,6 @@ module _ (s : State) (now : ℕ) (r : Ready s now) (w : State) (p : w ≡ woken 
 
       pub gives-moved : (m out : State) → (c .preemptor ≡ 0 → ⊥) → m ≡ preempting w (c .transport) (c .job) (c .current) (c .waiting)
           → out ≡ handedOut m (c .transport) (c .job) (c .place) (c .entry)
-          → record { says = answers (c .job ∷ c .entry ∷ w .ticket ∷ c .passed ∷ []); state = out; buffer = [] } ≡ afterPick (woken s now) now
+          → record { says = granted (c .job ∷ c .entry ∷ w .ticket ∷ c .passed ∷ []); state = out; buffer = [] } ≡ afterPick (woken s now) now
       gives-moved m out h q z =
           rw (z ∙ ap (λ m. handedOut m (c .transport) (c .job) (c .place) (c .entry)) q) (pick-moved w now c e own-shape own-sound f h .1 .1 ∙ after-is)

@@ -1,16 +1,21 @@
 -- The ways that a pick can end: what the code gives there is the rules' reply.
 use Prim.Native.Nat.{ℕ, _≤_, _<_}
-use mathlib.Core.Path.{_≡_, refl}
+use mathlib.Core.Path.{_≡_, refl, ap}
 use mathlib.Core.Bool.{true, false}
 use mathlib.Core.List.{[]}
 use borrow.Author.Tests.{lt-ltb, le-ltb}
 use Rattle.laws.specs.Choice.{if_then_else_}
 use Rattle.rules.specs.declared.State.{State}
+use Rattle.rules.specs.declared.PickAnswer.{PickAnswer}
 use Rattle.rules.specs.Sizes.{lastSecond}
 use Rattle.rules.specs.Sound.{sound}
 use Rattle.rules.specs.Windows.{woken}
 use Rattle.rules.specs.Refusals.{badClock, pickRefusal}
 use Rattle.rules.specs.Calls.{Reply, refused, unlessRefused, pickReply, afterPick}
+use Rattle.rules.specs.Answers.{pickSays}
+use Rattle.rules.specs.Gave.{FindsExactly}
+use Rattle.rules.proofs.Shape.{Shaped}
+use Rattle.rules.proofs.Found.{finds-exactly}
 use Rattle.rules.proofs.Replies.{accepting, refusing-unsound}
 
 module _ (s : State) (now : ℕ) where
@@ -33,3 +38,8 @@ module _ (s : State) (now : ℕ) where
   pub pick-made : (x : Reply) → pickRefusal s now ≡ 0 → x ≡ afterPick (woken s now) now → x ≡ pickReply s now
   unfolding pickReply
   pick-made x e h = accepting (pickRefusal s now) s [] x _ e h
+
+  -- from the reply, what its case tells
+  pub with-found : (a : PickAnswer) (out : State) → Shaped s → record { says = pickSays a; state = out; buffer = [] } ≡ pickReply s now
+      → (record { says = pickSays a; state = out; buffer = [] } ≡ pickReply s now) × FindsExactly s now a
+  with-found a out shape e = (e, finds-exactly s now shape a (ap (λ x. x .says) e))

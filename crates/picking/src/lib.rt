@@ -6,7 +6,7 @@ ghost use mathlib.Core.Path.{_≡_};
 ghost use Prim.Native.Nat.{_+_, _%_};
 ghost use Rattle.rules.specs.Sizes.{tickets};
 ghost use Rattle.rules.specs.Calls.{pickReply};
-ghost use Rattle.rules.specs.Gave.{pickGave};
+ghost use Rattle.rules.specs.Gave.{pickGave, FindsExactly};
 
 // The ticket after t: it rolls from 4,294,967,295 back to 0.
 fn next_ticket(t: u32) -> u32
@@ -17,7 +17,8 @@ fn next_ticket(t: u32) -> u32
 
 // The next entry, with its ticket and the number of jobs passed over; nothing where no entry is eligible.
 pub fn pick(s: State, now: u64) -> PickReply
-    ensures { λ r. ⌜ pickGave r ≡ pickReply s now ⌝ }
+    ensures reply { λ r. ⌜ pickGave r ≡ pickReply s now ⌝ }
+    ensures found { λ r. ⌜ FindsExactly s now (r .answer) ⌝ }
 {
     let mut next = s;
     let mut pairs = [0u16; 1024];

@@ -28,7 +28,7 @@ use Rattle.rules.specs.Sound.{sound, busyOn, busyTo}
 use Rattle.rules.specs.SoundFacts.{LiveSound, EntrySound, Sound}
 use Rattle.rules.specs.Windows.{wokenAt, woken}
 use Rattle.rules.specs.Reporting.{oneLessBusy, droppingJobs, remainingJobs, reportedHealth, dies, isPutOff, putOffEntries, putOffOf, kindAfter, settled, stays, parentAfter, departed, reportedAt, reporting}
-use Rattle.rules.specs.Calls.{Reply, answers, written, reportingReply}
+use Rattle.rules.specs.Calls.{Reply, granted, written, reportingReply}
 use Rattle.laws.specs.Choice.{if_then_else_}
 use Rattle.laws.specs.Chain.{firstAlong}
 use Rattle.rules.proofs.Shape.{Shaped}
@@ -238,7 +238,7 @@ module _ (s : State) (clock e : ℕ) (outcome : Outcome) (shape : Shaped s) wher
     number-is = was .number
 
     pub report-is : _≡_ {A = Reply} (record {
-      says = answers (n ∷ []);
+      says = granted (n ∷ []);
       state = record {
         setup = s .setup;
         clock = clock;

@@ -20,7 +20,7 @@ use Rattle.rules.specs.SoundFacts.{Sound}
 use Rattle.rules.proofs.EntryTests.{busy-used}
 use Rattle.rules.proofs.EntryFacts.{waiting-used}
 use Rattle.rules.proofs.Soundness.{sound-facts}
-use Rattle.counting.specs.Counting.{tallyTo, Paired}
+use Rattle.counting.specs.Counting.{countsTo, Paired}
 use Rattle.settling.specs.Settling.{putOffAt, PutOff}
 use Rattle.leaving.specs.Leaving.{usedAt, elsewhere, emptied, OthersStay}
 use Rattle.reporting.proofs.ReportReplies.{CanReport}
@@ -70,7 +70,7 @@ module _ (s : State) (clock e places : ℕ) (can : CanReport s clock e places) w
       waiting-for j x i = eqb (at (s .entries .kind) i) 1 && eqb (32 * jobOf s i + destinationOf s i) (32 * j + x)
 
       counted : (j x : ℕ) → j < maxJobs → x < maxDestinations → at pairs (32 * j + x) ≡ countTo (waiting-for j x) maxEntries
-      unfolding tallyTo
+      unfolding countsTo
       counted j x l m = paired .counts (32 * j + x) (omega (arith, l, m))
 
       -- it has none that waited for the destination

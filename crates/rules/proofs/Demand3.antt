@@ -19,7 +19,7 @@ use Rattle.rules.specs.Sound.{sound}
 use Rattle.rules.specs.SoundFacts.{Sound}
 use Rattle.rules.specs.Windows.{woken}
 use Rattle.rules.specs.Refusals.{askRefusal}
-use Rattle.rules.specs.Calls.{Call, ask, Says, Reply, answers, unlessRefused, askReply, replyTo}
+use Rattle.rules.specs.Calls.{Call, ask, Says, Reply, granted, unlessRefused, askReply, replyTo}
 use Rattle.rules.specs.Tally.{Row, Tally, rowAt, rowOf, linkedRow}
 use Rattle.rules.specs.Run.{stateAfter, tallyOf}
 use Rattle.rules.specs.Demand3.{Ceilings, Demand3, Companions, Demand3Holds, costFor}
@@ -58,18 +58,18 @@ ceilings-at {u} {s} {y} r i l =
     }
 
 -- asking about a present job of a sound state is accepted
-ask-accepted : (s : State) (j : ℕ) → sound s ≡ true → isPresent s j ≡ true → replyTo s (ask j) .says ≡ answers (at (s .jobs .overtakers) j ∷ [])
+ask-accepted : (s : State) (j : ℕ) → sound s ≡ true → isPresent s j ≡ true → replyTo s (ask j) .says ≡ granted (at (s .jobs .overtakers) j ∷ [])
 unfolding replyTo askReply unlessRefused askRefusal if_then_else_
 ask-accepted s j h p = rw (h, p) refl
 
 asking-at : {u : Setup} {s : State} {y : Tally} → Reached u s y → (j : ℕ) → isPresent s j ≡ true
-    → (1 ≤ rowOf (y .rows) j) × (replyTo s (ask j) .says ≡ answers (linkedRow (y .rows) (rowOf (y .rows) j) .overtakers ∷ []))
+    → (1 ≤ rowOf (y .rows) j) × (replyTo s (ask j) .says ≡ granted (linkedRow (y .rows) (rowOf (y .rows) j) .overtakers ∷ []))
 unfolding linkedRow
 asking-at {u} {s} {y} r j h =
     let (i, q) = r .sim .job j h in
     rw (q .link) (
       omega arith,
-      ask-accepted s j (sound-of s (r .sound)) h ∙ ap (λ n. answers (n ∷ [])) (q .over ∙ sym (r .sim .row i (row-inside (r .sim) j i (q .link)) .overtakers)),
+      ask-accepted s j (sound-of s (r .sound)) h ∙ ap (λ n. granted (n ∷ [])) (q .over ∙ sym (r .sim .row i (row-inside (r .sim) j i (q .link)) .overtakers)),
     )
 
 pub demand3 : (u : Setup) → setupInRange u ≡ true → (calls : List Call) → Demand3 u calls

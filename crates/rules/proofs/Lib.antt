@@ -7,6 +7,7 @@ pub mod KeptPreempting
 pub mod KeptRanges
 pub mod KeptWaking
 pub mod Picked
+pub mod Found
 pub mod Preempted
 pub mod Preemptor
 pub mod Refused

@@ -4,7 +4,7 @@ use mathlib.Core.Path.{_≡_, refl, sym, _∙_, ap, subst}
 use mathlib.Core.Bool.{Bool, true, false}
 use mathlib.Core.List.{List, [], _∷_}
 use Rattle.ceiling.specs.Columns.{Columns}
-use Rattle.ceiling.specs.Steps.{fresh, take, drop}
+use Rattle.ceiling.specs.Steps.{fresh, addRow, lessen}
 use Rattle.rules.specs.declared.Setup.{Setup}
 use Rattle.rules.specs.declared.State.{State}
 use Rattle.rules.specs.declared.Outcome.{Outcome}
@@ -59,7 +59,7 @@ module _ {u : Setup} {s : State} {y : Tally} (r : Reached u s y) where
       record {
         shaped = kept .0;
         sound = kept .1;
-        columns = take (w .columns) t (nOf (woken s now) dests);
+        columns = addRow (w .columns) t (nOf (woken s now) dests);
         sim = sim-taken (w .sim) (newNumber (woken s now)) t now (keptOf (woken s now) dests) (w .shaped) (w .sound) (fits-of (woken s now) t dests p);
       }
 
@@ -79,7 +79,7 @@ module _ {u : Setup} {s : State} {y : Tally} (r : Reached u s y) where
       record {
         shaped = kept .0;
         sound = kept .1;
-        columns = drop (w .columns) (left (w .sim) now e outcome (w .shaped) (w .sound) l b);
+        columns = lessen (w .columns) (left (w .sim) now e outcome (w .shaped) (w .sound) l b);
         sim = sim-reported (w .sim) now e outcome (w .shaped) (w .sound) l b;
       }
 

@@ -63,7 +63,7 @@ refusalOf s (Call.report now e ticket outcome list) = reportRefusal s now e tick
 refusalOf s (Call.ask j) = askRefusal s j
 refusalOf s (Call.board buffer) = boardRefusal s buffer
 
-picking-accepted : (s : State) (now : ℕ) → pickReply s now .says .refusal ≡ pickRefusal s now
+pub picking-accepted : (s : State) (now : ℕ) → pickReply s now .says .refusal ≡ pickRefusal s now
 unfolding pickReply afterPick pickingReply
 picking-accepted s now =
     unless-says (pickRefusal s now) s [] _

@@ -18,9 +18,9 @@ use Rattle.laws.proofs.Chain.{link-cases, ends-zero, first-along-enough, first-
 use Rattle.laws.proofs.Onto.{ends-near, first-near, near-same}
 use Rattle.laws.proofs.Order.{before-kept}
 use Rattle.ceiling.specs.Columns.{Columns, sold}
-use Rattle.ceiling.specs.Steps.{drop}
+use Rattle.ceiling.specs.Steps.{lessen}
 use Rattle.ceiling.proofs.Ceilings.{chains-end}
-use Rattle.ceiling.proofs.Invariant.{inv-drop, inv-leave}
+use Rattle.ceiling.proofs.Invariant.{inv-lessen, inv-leave}
 use Rattle.rules.specs.declared.Setup.{Setup}
 use Rattle.rules.specs.declared.State.{State}
 use Rattle.rules.specs.declared.Outcome.{Outcome}
@@ -120,7 +120,7 @@ module _ {u : Setup} {w : State} {y : Tally} {g : Columns} (m : Sim u w y g) (no
       ∙ first-near (presentRow w (y .rows)) (g .names) (g .rows) rowStays (g .rows) (g .names i) (omega arith) (ends-names i l)
       ∙ sym (near-same (presentRow after (y .rows)) (λ i. presentRow w (y .rows) i && rowStays i) (g .names) (g .rows) i (λ i. unfold rowStays in present-after i)))
 
-  jobs-after : (j : ℕ) → isPresent after j ≡ true → (i : ℕ) × JobIs after (y .rows) (drop g left) j i
+  jobs-after : (j : ℕ) → isPresent after j ≡ true → (i : ℕ) × JobIs after (y .rows) (lessen g left) j i
   jobs-after j h =
       let was : isPresent w j ≡ true = was-present j h in
       let (i, r) = m .job j was in (
@@ -152,7 +152,7 @@ module _ {u : Setup} {w : State} {y : Tally} {g : Columns} (m : Sim u w y g) (no
       let few : v < w .setup .transports = subst (λ u. v < u .transports) (leaves .setup) l in
       (v, x, z, few, before-kept x z (isPresent after) (queueOf w v) (subst (Before x z) (reported-queue w now e outcome shaped sound inside busy v few) q), e1, e2)
 
-  pub sim-reported : Sim u (reportedBy w now e outcome) y (drop g left)
+  pub sim-reported : Sim u (reportedBy w now e outcome) y (lessen g left)
   sim-reported =
       record {
         setup = leaves .setup ∙ m .setup;
@@ -172,5 +172,5 @@ module _ {u : Setup} {w : State} {y : Tally} {g : Columns} (m : Sim u w y g) (no
         total = m .total;
         job = jobs-after;
         gone = gone-after;
-        inv = inv-leave (inv-drop (m .inv) left left-le) ahead-before;
+        inv = inv-leave (inv-lessen (m .inv) left left-le) ahead-before;
       }

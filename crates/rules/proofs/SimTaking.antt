@@ -26,10 +26,10 @@ use Rattle.laws.proofs.Sequence.{holds-cases}
 use Rattle.laws.proofs.Chain.{link-cases, ends-zero, first-along-zero, first-along-same, first-along-agree, first-along-enough, first-along-ok}
 use Rattle.laws.proofs.Order.{before-append-cases, before-left, before-right}
 use Rattle.ceiling.specs.Columns.{Columns, sold, ofTransport}
-use Rattle.ceiling.specs.Steps.{take}
-use Rattle.ceiling.proofs.Forest.{sold-take, sold-take-new}
+use Rattle.ceiling.specs.Steps.{addRow}
+use Rattle.ceiling.proofs.Forest.{sold-add, sold-add-new}
 use Rattle.ceiling.proofs.Ceilings.{chains-end}
-use Rattle.ceiling.proofs.Invariant.{inv-take}
+use Rattle.ceiling.proofs.Invariant.{inv-add}
 use Rattle.rules.specs.declared.Setup.{Setup}
 use Rattle.rules.specs.declared.State.{State}
 use Rattle.rules.specs.State.{at, queueOf, isPresent, waitingOf, parentOf}
@@ -60,7 +60,7 @@ module _ {u : Setup} {w : State} {y : Tally} {g : Columns} (m : Sim u w y g) (j 
   rows = y .rows ++ (new ∷ [])
 
   abbrev g' : Columns
-  g' = take g t n
+  g' = addRow g t n
 
   new-job : new .job ≡ j
   unfolding newRow
@@ -182,7 +182,7 @@ module _ {u : Setup} {w : State} {y : Tally} {g : Columns} (m : Sim u w y g) (j 
         picked = o .picked ∙ r .picked ∙ sym (upd-below (g .picked) (g .rows) 0 i l);
         waiting = taken-waiting-other w j t now kept shaped sound fits x ne ∙ r .waiting ∙ sym (upd-below (g .waiting) (g .rows) n i l);
         n = o .n ∙ r .n ∙ sym (upd-below (g .n) (g .rows) n i l);
-        sold = o .sold ∙ r .sold ∙ sym (sold-take (m .inv .forest) t n i);
+        sold = o .sold ∙ r .sold ∙ sym (sold-add (m .inv .forest) t n i);
         over = o .overtakers ∙ r .over ∙ sym (upd-below (g .over) (g .rows) 0 i l);
         unmarked = λ f. upd-below (g .names) (g .rows) 0 i l ∙ r .unmarked (sym (o .preempted) ∙ f);
         parent = o .parent ∙ r .parent ∙ sym (ap (jobLink rows) (up-old i l) ∙ link-old _ (up-inside i l));
@@ -198,7 +198,7 @@ module _ {u : Setup} {w : State} {y : Tally} {g : Columns} (m : Sim u w y g) (j 
         picked = o .picked ∙ sym (upd-same (g .picked) (g .rows) 0);
         waiting = taken-waiting-new w j t now kept shaped sound fits ∙ sym (upd-same (g .waiting) (g .rows) n);
         n = o .n ∙ sym (upd-same (g .n) (g .rows) n);
-        sold = o .sold ∙ sym (sold-take-new (m .inv .forest) t n);
+        sold = o .sold ∙ sym (sold-add-new (m .inv .forest) t n);
         over = o .overtakers ∙ sym (upd-same (g .over) (g .rows) 0);
         unmarked = λ f. upd-same (g .names) (g .rows) 0;
         parent = o .parent ∙ sym (ap (jobLink rows) up-new);
@@ -262,7 +262,7 @@ module _ {u : Setup} {w : State} {y : Tally} {g : Columns} (m : Sim u w y g) (j 
       first : holds x (queueOf w t) ≡ true → a < g .rows
       first h = row-inside m x a (sym (row-of-other x (listed-other t x (fits .transport) h)) ∙ e1)
 
-  pub sim-taken : Sim u (taken w j t now kept) (withJob y j t (length kept)) (take g t (length kept))
+  pub sim-taken : Sim u (taken w j t now kept) (withJob y j t (length kept)) (addRow g t (length kept))
   unfolding withJob
   sim-taken =
       record {
@@ -273,5 +273,5 @@ module _ {u : Setup} {w : State} {y : Tally} {g : Columns} (m : Sim u w y g) (j 
         total = m .total;
         job = jobs-after;
         gone = gone-after;
-        inv = inv-take (m .inv) t n ahead-before;
+        inv = inv-add (m .inv) t n ahead-before;
       }

@@ -8,30 +8,30 @@ use Rattle.rules.specs.declared.PickAnswer.{PickAnswer}
 use Rattle.rules.specs.declared.ReportAnswer.{ReportAnswer}
 use Rattle.rules.specs.declared.AskAnswer.{AskAnswer}
 use Rattle.rules.specs.declared.BoardAnswer.{BoardAnswer}
-use Rattle.rules.specs.Calls.{Says, refused, answers}
+use Rattle.rules.specs.Calls.{Says, refused, granted}
 
 abbrev pub setupSays : SetupAnswer → Says
 setupSays (SetupAnswer.Refused k) = refused k
-setupSays SetupAnswer.Accepted = answers []
+setupSays SetupAnswer.Accepted = granted []
 
 abbrev pub jobSays : JobAnswer → Says
 jobSays (JobAnswer.Refused k) = refused k
-jobSays (JobAnswer.Taken j putoff) = answers (j ∷ putoff ∷ [])
-jobSays (JobAnswer.PutOff putoff) = answers (putoff ∷ [])
+jobSays (JobAnswer.Taken j putoff) = granted (j ∷ putoff ∷ [])
+jobSays (JobAnswer.PutOff putoff) = granted (putoff ∷ [])
 
 abbrev pub pickSays : PickAnswer → Says
 pickSays (PickAnswer.Refused k) = refused k
-pickSays (PickAnswer.Picked j e ticket passed) = answers (j ∷ e ∷ ticket ∷ passed ∷ [])
-pickSays PickAnswer.Nothing = answers (0 ∷ [])
+pickSays (PickAnswer.Picked j e ticket passed) = granted (j ∷ e ∷ ticket ∷ passed ∷ [])
+pickSays PickAnswer.Nothing = granted (0 ∷ [])
 
 abbrev pub reportSays : ReportAnswer → Says
 reportSays (ReportAnswer.Refused k) = refused k
-reportSays (ReportAnswer.Reported putoff) = answers (putoff ∷ [])
+reportSays (ReportAnswer.Reported putoff) = granted (putoff ∷ [])
 
 abbrev pub askSays : AskAnswer → Says
 askSays (AskAnswer.Refused k) = refused k
-askSays (AskAnswer.Overtakers sum) = answers (sum ∷ [])
+askSays (AskAnswer.Overtakers sum) = granted (sum ∷ [])
 
 abbrev pub boardSays : BoardAnswer → Says
 boardSays (BoardAnswer.Refused k) = refused k
-boardSays (BoardAnswer.Written n) = answers (n ∷ [])
+boardSays (BoardAnswer.Written n) = granted (n ∷ [])

@@ -58,8 +58,8 @@ pub data Call : Type 0 where
 abbrev pub refused : ℕ → Says
 refused k = record { refusal = k; values = [] }
 
-abbrev pub answers : List ℕ → Says
-answers vs = record { refusal = 0; values = vs }
+abbrev pub granted : List ℕ → Says
+granted vs = record { refusal = 0; values = vs }
 
 -- the values are written from the front; "List places past the count stay untouched"
 abbrev pub written : List ℕ → List ℕ → List ℕ
@@ -77,7 +77,7 @@ decidedUnless (suc k) d = nothing
 -- Set-up. "A refused set-up gives a state of all zeros."
 
 unfoldable pub setupReply : Setup → Reply
-setupReply u = unlessRefused (setupRefusal u) zeroState [] (record { says = answers []; state = freshState u; buffer = [] })
+setupReply u = unlessRefused (setupRefusal u) zeroState [] (record { says = granted []; state = freshState u; buffer = [] })
 
 -- A job, from the state w after waking. "The answer is the job number and how many were put off; with n = 0 no job comes to be and only that
 -- count is answered."
@@ -86,12 +86,12 @@ unfoldable pub takingReply : State → ℕ → ℕ → List ℕ → List ℕ →
 takingReply w now t dests list =
     if eqb (nOf w dests) 0
     then record {
-      says = answers (length (putOffPositions w dests) ∷ []);
+      says = granted (length (putOffPositions w dests) ∷ []);
       state = w;
       buffer = written (putOffPositions w dests) list;
     }
     else record {
-      says = answers (newNumber w ∷ length (putOffPositions w dests) ∷ []);
+      says = granted (newNumber w ∷ length (putOffPositions w dests) ∷ []);
       state = taken w (newNumber w) t now (keptOf w dests);
       buffer = written (putOffPositions w dests) list;
     }
@@ -111,7 +111,7 @@ jobDecision s now t dests list = decidedUnless (jobRefusal s now t dests list) (
 unfoldable pub pickingReply : State → Picked → Reply
 pickingReply w p =
     record {
-      says = answers (p .found .job ∷ p .found .entry ∷ w .ticket ∷ p .found .passed ∷ []);
+      says = granted (p .found .job ∷ p .found .entry ∷ w .ticket ∷ p .found .passed ∷ []);
       state = p .state;
       buffer = [];
     }
@@ -119,7 +119,7 @@ pickingReply w p =
 -- of the state after waking
 unfoldable pub afterPick : State → ℕ → Reply
 afterPick w now =
-    if finds w then pickingReply w (picking w now) else record { says = answers (0 ∷ []); state = w; buffer = [] }
+    if finds w then pickingReply w (picking w now) else record { says = granted (0 ∷ []); state = w; buffer = [] }
 
 unfoldable pub pickReply : State → ℕ → Reply
 pickReply s now = unlessRefused (pickRefusal s now) s [] (afterPick (woken s now) now)
@@ -135,7 +135,7 @@ pickDecision s now =
 
 unfoldable pub reportingReply : Reported → List ℕ → Reply
 reportingReply r list =
-    record { says = answers (length (r .putoff) ∷ []); state = r .state; buffer = written (r .putoff) list }
+    record { says = granted (length (r .putoff) ∷ []); state = r .state; buffer = written (r .putoff) list }
 
 unfoldable pub reportReply : State → ℕ → ℕ → ℕ → Outcome → List ℕ → Reply
 reportReply s now e ticket outcome list =
@@ -151,14 +151,14 @@ reportDecision s now e ticket outcome list =
 
 unfoldable pub askReply : State → ℕ → Reply
 askReply s j =
-    unlessRefused (askRefusal s j) s [] (record { says = answers (at (s .jobs .overtakers) j ∷ []); state = s; buffer = [] })
+    unlessRefused (askRefusal s j) s [] (record { says = granted (at (s .jobs .overtakers) j ∷ []); state = s; buffer = [] })
 
 -- Board text. "The answer is the text's length; bytes past it stay."
 
 unfoldable pub boardReply : State → List ℕ → Reply
 boardReply s buffer =
     unlessRefused (boardRefusal s buffer) s buffer
-    (record { says = answers (length (boardText s) ∷ []); state = s; buffer = written (boardText s) buffer })
+    (record { says = granted (length (boardText s) ∷ []); state = s; buffer = written (boardText s) buffer })
 
 -- Any call.
 

@@ -13,7 +13,7 @@ use Rattle.rules.specs.Sound.{sound}
 use Rattle.rules.specs.Windows.{woken}
 use Rattle.rules.specs.Picking.{eligible, finds}
 use Rattle.rules.specs.Refusals.{pickRefusal}
-use Rattle.rules.specs.Calls.{Call, Says, Reply, answers, replyTo}
+use Rattle.rules.specs.Calls.{Call, Says, Reply, granted, replyTo}
 use Rattle.rules.specs.Tally.{Row, Tally, rowAt, rowOf, linkedRow}
 use Rattle.rules.specs.Run.{stateAfter, tallyOf}
 use Rattle.rules.specs.Ledger.{Account, accountAt, accountsOf, stillWaiting}
@@ -43,7 +43,7 @@ pub record Demand3 (u : Setup) (calls : List Call) : Type 0 where
       → isPresent (stateAfter u before) j ≡ true
       → (1 ≤ rowOf (tallyOf u before .rows) j)
       × (replyTo (stateAfter u before) (Call.ask j) .says
-      ≡ answers (linkedRow (tallyOf u before .rows) (rowOf (tallyOf u before .rows) j) .overtakers ∷ []))
+      ≡ granted (linkedRow (tallyOf u before .rows) (rowOf (tallyOf u before .rows) j) .overtakers ∷ []))
 
 -- beside it, of the same runs
 pub record Companions (u : Setup) (calls : List Call) : Type 0 where

@@ -13,8 +13,8 @@ use Rattle.rules.specs.Run.{stateFrom}
 use Rattle.laws.specs.Wrote.{Wrote}
 use Rattle.laws.proofs.Writing.{wrote-none}
 use Rattle.layout.specs.Layout.{word, headOf, sizeOf, listPlaces, textPlaces, callOf, rowLength, endBefore, reading}
-use Rattle.running.specs.Runs.{gathered, rowOf, Ran, callsRead, ranFrom}
-use Rattle.layout.specs.Layout.{listOf, textOf}
+use Rattle.running.specs.Runs.{gathered, rowAdded, Ran, callsRead, ranFrom}
+use Rattle.layout.specs.Layout.{listAdded, textAdded}
 use Rattle.making.specs.Making.{Lent, Answered}
 use Rattle.layout.proofs.LayoutLaws.{nonzero, size-is, end-most, Ahead, ahead-of}
 use Rattle.running.proofs.ReadingLaws.{state-more, wrote-more, reading-ends, behind, reading-goes, same-reading, same-length, untouched, part-length, rest-whole}
@@ -37,11 +37,11 @@ pub record Running (s : State) (words answers lists texts : List ℕ) (state : S
       ≡ reading left (drop at words) (length answers - row) (drop listed lists) (drop told texts) .end
   pub reached : state ≡ stateFrom s done
   pub count : made ≡ length done
-  pub rows : Wrote (gathered rowOf s done) answers a row
+  pub rows : Wrote (gathered rowAdded s done) answers a row
   pub rowsfit : row ≤ length answers
-  pub listings : Wrote (gathered listOf s done) lists l listed
+  pub listings : Wrote (gathered listAdded s done) lists l listed
   pub listsfit : listed ≤ length lists
-  pub tellings : Wrote (gathered textOf s done) texts t told
+  pub tellings : Wrote (gathered textAdded s done) texts t told
   pub textsfit : told ≤ length texts
 
 pub starts : (s : State) (words answers lists texts : List ℕ) → Running s words answers lists texts s 0 0 0 0 0 answers lists texts
@@ -214,11 +214,11 @@ module _ {s : State} {words answers lists texts : List ℕ} {state : State} {mad
         end = run .end ∙ ap (λ r. r .end) (next .2) ∙ ap (λ r. r .end) later;
         reached = x .left ∙ sym (state-more s (run .done) call);
         count = simp length-append (omega (arith, run .count));
-        rows = wrote-more rowOf s (run .done) call row2 (x .said) (run .rows) ka rowLength ea (sym (ap length (x .said)));
+        rows = wrote-more rowAdded s (run .done) call row2 (x .said) (run .rows) ka rowLength ea (sym (ap length (x .said)));
         rowsfit = omega (arith, ahead .row, run .rowsfit);
-        listings = wrote-more listOf s (run .done) call list2 (x .listed) (run .listings) kl places el (sym (nl ∙ part-length listed kl l (omega (arith, list-fits places hp, el)) ∙ el));
+        listings = wrote-more listAdded s (run .done) call list2 (x .listed) (run .listings) kl places el (sym (nl ∙ part-length listed kl l (omega (arith, list-fits places hp, el)) ∙ el));
         listsfit = omega (arith, ahead .list, hp2, run .listsfit);
-        tellings = wrote-more textOf s (run .done) call text2 (x .told) (run .tellings) kt room et (sym (nt ∙ part-length told kt t (omega (arith, text-fits room hr, et)) ∙ et));
+        tellings = wrote-more textAdded s (run .done) call text2 (x .told) (run .tellings) kt room et (sym (nt ∙ part-length told kt t (omega (arith, text-fits room hr, et)) ∙ et));
         textsfit = omega (arith, ahead .text, hr2, run .textsfit);
       }
 

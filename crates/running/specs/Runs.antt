@@ -12,15 +12,15 @@ use Rattle.rules.specs.Calls.{Reply, Call, written, replyTo}
 use Rattle.rules.specs.Demand3.{Demand3, Companions}
 use Rattle.running.specs.declared.RunAnswer.{RunAnswer}
 use Rattle.running.specs.declared.RunEnd.{RunEnd}
-use Rattle.layout.specs.Layout.{answerRow, listOf, textOf, Reading, reading}
+use Rattle.layout.specs.Layout.{answerRow, listAdded, textAdded, Reading, reading}
 
 -- what each reply adds, one behind the other, where each call is handed the state as the one before left it
 unfoldable pub gathered : (Call → Reply → List ℕ) → State → List Call → List ℕ
 gathered f s [] = []
 gathered f s (call ∷ calls) = f call (replyTo s call) ++ gathered f (replyTo s call .state) calls
 
-abbrev pub rowOf : Call → Reply → List ℕ
-rowOf call r = answerRow (r .says)
+abbrev pub rowAdded : Call → Reply → List ℕ
+rowAdded call r = answerRow (r .says)
 
 -- how many calls were run, why it ended (0: the set-up was refused), and what the three slices hold at the end
 pub record Ran : Type 0 where
@@ -39,9 +39,9 @@ ranFrom s r answers lists texts =
     record {
       calls = length (r .calls);
       end = r .end;
-      answers = written (gathered rowOf s (r .calls)) answers;
-      lists = written (gathered listOf s (r .calls)) lists;
-      texts = written (gathered textOf s (r .calls)) texts;
+      answers = written (gathered rowAdded s (r .calls)) answers;
+      lists = written (gathered listAdded s (r .calls)) lists;
+      texts = written (gathered textAdded s (r .calls)) texts;
     }
 
 -- "A refused set-up runs nothing"

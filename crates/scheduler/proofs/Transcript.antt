@@ -29,8 +29,8 @@ replies-are s (x ∷ xs) (handed, kept, rest) =
 
 pub transcript-holds : (u : Setup) (start : SetupReply) (steps : List Step) → Transcript u start steps → Holds u steps
 transcript-holds u start steps t =
-    let inside : setupInRange u ≡ true = sym (t .set .1) ∙ t .accepted in
-    let first : start .state ≡ freshState u = ap (λ r. r .state) (t .set .0) ∙ start-is u inside in
+    let inside : setupInRange u ≡ true = sym (t .begins .1) ∙ t .accepted in
+    let first : start .state ≡ freshState u = ap (λ r. r .state) (t .begins .0) ∙ start-is u inside in
     record {
       replies = replies-are (freshState u) steps (subst (λ s. Follows s steps) first (t .follows));
       demand3 = demand3 u inside (callsOf steps);

@@ -32,7 +32,7 @@ Follows s (x ∷ xs) = (x .handed ≡ s) × Kept (x .call) (x .handed) (x .gave)
 
 pub record Transcript (u : Setup) (start : SetupReply) (steps : List Step) : Type 0 where
   -- what the contract of set-up says, and that its answer was an acceptance
-  pub set : SetupKept u start
+  pub begins : SetupKept u start
   pub accepted : accepts (start .answer) ≡ true
   pub follows : Follows (start .state) steps
 

@@ -67,7 +67,7 @@ pub fn put_off<'a>(
     m as u16
 }
 
-// The refusal of a report to a sound state with this clock and these columns, 0 for none.
+// The refusal of a report to a sound state with this clock and these columns, 0 for none. There is such a state.
 pub fn refusal<'a>(
     last: u32,
     kind: &'a [u8; 512],
@@ -77,6 +77,7 @@ pub fn refusal<'a>(
     ticket: u64,
     places: usize,
 ) -> u8
+    requires { ⌜ ((s : State) × HasColumns s last (now kind) (now tickets)) ⌝ }
     ensures { λ r. ⌜ ((s : State) → HasColumns s last (now (kind .entry)) (now (tickets .entry)) → (list : List ℕ) → length list ≡ places → r ≡ reportRefusal s clock entry ticket list) ⌝ }
 {
     if (clock < last as u64) | (4294967295 < clock) {

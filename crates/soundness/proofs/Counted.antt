@@ -8,8 +8,8 @@ use Rattle.laws.specs.Range.{countTo}
 use Rattle.rules.specs.declared.State.{State}
 use Rattle.rules.specs.State.{at, isWaiting, destinationOf, waitsOf, busyOf, waitingOf}
 use Rattle.rules.specs.Sound.{busyOn, busyTo}
-use Rattle.counting.specs.declared.Tally.{Tally}
-use Rattle.counting.specs.Counting.{Columns, columns, tallyTo, Tables}
+use Rattle.counting.specs.declared.EntryCounts.{EntryCounts}
+use Rattle.counting.specs.Counting.{Columns, columns, countsTo, Tables}
 
 -- the columns that the pass over the entries reads
 abbrev pub columnsOf : State → List Bool → Columns
@@ -18,23 +18,23 @@ columnsOf s table =
     (s .setup .destinations)
     table
 
-module _ (s : State) (table : List Bool) (r : Tally) (tables : Tables (columnsOf s table) 512 (r .waiting) (r .busy) (r .held) (r .to) (r .on)) where
+module _ (s : State) (table : List Bool) (r : EntryCounts) (tables : Tables (columnsOf s table) 512 (r .waiting) (r .busy) (r .held) (r .to) (r .on)) where
   pub waiting-is : (j : ℕ) → j < 32 → at (r .waiting) j ≡ waitingOf s j
-  unfolding tallyTo waitingOf waitsOf
+  unfolding countsTo waitingOf waitsOf
   waiting-is j l = tables .waiting .counts j l
 
   pub busy-is : (j : ℕ) → j < 32 → at (r .busy) j ≡ countTo (busyOf s j) 512
-  unfolding tallyTo busyOf
+  unfolding countsTo busyOf
   busy-is j l = tables .busy .counts j l
 
   pub held-is : (d : ℕ) → d < 32 → at (r .held) d ≡ countTo (λ e. isWaiting s e && eqb (destinationOf s e) d) 512
-  unfolding tallyTo
+  unfolding countsTo
   held-is d l = tables .held .counts d l
 
   pub to-is : (d : ℕ) → d < 32 → at (r .to) d ≡ countTo (busyTo s d) 512
-  unfolding tallyTo busyTo
+  unfolding countsTo busyTo
   to-is d l = tables .to .counts d l
 
   pub on-is : (t : ℕ) → t < 4 → at (r .on) t ≡ countTo (busyOn s t) 512
-  unfolding tallyTo busyOn
+  unfolding countsTo busyOn
   on-is t l = tables .on .counts t l

@@ -26,7 +26,7 @@ use Rattle.rules.specs.Sound.{implies, isJobOn, orderOf, costOf, sound}
 use Rattle.rules.specs.SoundFacts.{EntrySound, ChildOf, DestinationSound}
 use Rattle.rules.proofs.RangeFacts.{within-of, implies-of, in-range-of}
 use Rattle.rules.proofs.Soundness.{sound-facts}
-use Rattle.counting.specs.declared.Tally.{Tally}
+use Rattle.counting.specs.declared.EntryCounts.{EntryCounts}
 use Rattle.listing.specs.Listing.{orderList, distinct, orderTest}
 use Rattle.clauses.specs.Clauses.{countsTest, soldTest, childTest, jobTest}
 use Rattle.counting.specs.Counting.{belongsAt, belongsTest, entryTest, Tables}
@@ -112,7 +112,7 @@ module _ (s : State) where
 
 -- The tests that read the tables.
 
-module _ (s : State) (table : List Bool) (r : Tally) (tables : Tables (columnsOf s table) 512 (r .waiting) (r .busy) (r .held) (r .to) (r .on)) where
+module _ (s : State) (table : List Bool) (r : EntryCounts) (tables : Tables (columnsOf s table) 512 (r .waiting) (r .busy) (r .held) (r .to) (r .on)) where
   -- Counts.
 
   sameOn : ℕ → Bool

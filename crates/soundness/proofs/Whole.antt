@@ -26,7 +26,7 @@ use Rattle.rules.specs.Sound.{implies, isJobOn, orderOf, costOf, sound}
 use Rattle.rules.specs.SoundFacts.{InRange, EntrySound, QueueSound, ArrivalsSound, ChildOf, JobSound, DestinationSound}
 use Rattle.rules.proofs.RangeFacts.{within-facts, implies-at, in-range-facts}
 use Rattle.rules.proofs.Soundness.{sound-of}
-use Rattle.counting.specs.declared.Tally.{Tally}
+use Rattle.counting.specs.declared.EntryCounts.{EntryCounts}
 use Rattle.listing.specs.Listing.{orderList, distinct, orderTest}
 use Rattle.clauses.specs.Clauses.{countsTest, soldTest, childTest, jobTest}
 use Rattle.counting.specs.Counting.{belongsAt, belongsTest, entryTest, Tables}
@@ -115,7 +115,7 @@ module _ (s : State) where
         let d : destinationOf s e < 256 = omega (arith, k .0 .destination) in
         sym (marks j b p (destinationOf s e) d) ∙ ap (λ j. getD table (256 * j + destinationOf s e) false) (sym q) ∙ k .1
 
-    module _ (r : Tally) (tables : Tables (columnsOf s table) 512 (r .waiting) (r .busy) (r .held) (r .to) (r .on)) where
+    module _ (r : EntryCounts) (tables : Tables (columnsOf s table) 512 (r .waiting) (r .busy) (r .held) (r .to) (r .on)) where
       -- Jobs.
 
       free-not : (e v : ℕ) → eqb (at (s .entries .kind) e) (suc v) ≡ true → isFree s e ≡ false

@@ -7,18 +7,23 @@ use listing::orders;
 use listing::queues;
 use rules::State;
 ghost use mathlib.Core.Path.{_≡_};
-ghost use mathlib.Core.Bool.{true};
-ghost use Prim.Native.Nat.{ℕ, _<_};
-ghost use lib.ListN.{length};
-ghost use Rattle.rules.specs.State.{at};
+ghost use mathlib.Core.Bool.{false};
 ghost use Rattle.rules.specs.Sound.{sound};
-ghost use Rattle.counting.specs.Counting.{Paired};
+ghost use Rattle.counting.specs.Counting.{noPairs, Pairs};
+
+// Answers no, and leaves the table as it came.
+fn unsound(pairs: &mut [u16; 1024]) -> bool
+    ensures { λ r. ⌜ (r ≡ false) × (now (pairs .exit) ≡ noPairs) ⌝ }
+{
+    *pairs = [0u16; 1024];
+    false
+}
 
 // Whether a state is sound. Where it is, the table of zeros becomes that of the waiting entries of each job to each destination.
 pub fn sound_with(s: State, pairs: &mut [u16; 1024]) -> bool
-    requires { ⌜ (length (now pairs) ≡ 1024) × ((k : ℕ) → k < 1024 → at (now pairs) k ≡ 0) ⌝ }
+    requires { ⌜ now pairs ≡ noPairs ⌝ }
     ensures answer { λ r. ⌜ r ≡ sound s ⌝ }
-    ensures pairs { λ r. ⌜ (r ≡ true → Paired (s .entries .kind) (s .entries .job) (s .entries .destination) (now (pairs .exit))) ⌝ }
+    ensures pairs { λ r. ⌜ Pairs r (s .entries .kind) (s .entries .job) (s .entries .destination) (now (pairs .exit)) ⌝ }
 {
     let u = s.setup;
     if !ranges::in_range(u) {
@@ -57,29 +62,32 @@ pub fn sound_with(s: State, pairs: &mut [u16; 1024]) -> bool
     let on = counted.on;
     let stored = s.busy;
     if !busy::agree(&stored.transport, &on, transports) {
-        return false;
+        return unsound(pairs);
     }
     if !busy::agree(&stored.destination, &to, destinations) {
-        return false;
+        return unsound(pairs);
     }
     if !jobs::jobs_right(g, u, waiting, busy) {
-        return false;
+        return unsound(pairs);
     }
     let queues = s.queues;
     if !queues::queues_right(queues, &g.present, &g.transport, transports) {
-        return false;
+        return unsound(pairs);
     }
     let arrivals = s.arrivals;
     let present = g.present;
     if !queues::each_once(arrivals, present) {
-        return false;
+        return unsound(pairs);
     }
     let clock = s.clock;
     if !queues::seconds_rise(arrivals, &g.arrival, clock) {
-        return false;
+        return unsound(pairs);
     }
     let states = s.destinations;
-    destinations::destinations_right(u, states, held)
+    if !destinations::destinations_right(u, states, held) {
+        return unsound(pairs);
+    }
+    true
 }
 
 // Whether a state is sound, where the table is not wanted.

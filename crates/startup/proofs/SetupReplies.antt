@@ -7,12 +7,12 @@ use Rattle.rules.specs.declared.Setup.{Setup}
 use Rattle.rules.specs.declared.State.{State}
 use Rattle.rules.specs.Setup.{setupInRange, zeroState, freshState}
 use Rattle.rules.specs.Refusals.{setupRefusal}
-use Rattle.rules.specs.Calls.{refused, answers, unlessRefused, setupReply}
+use Rattle.rules.specs.Calls.{refused, granted, unlessRefused, setupReply}
 
 pub setup-refused : (u : Setup) (z : State) → setupInRange u ≡ false → z ≡ zeroState → record { says = refused 2; state = z; buffer = [] } ≡ setupReply u
 unfolding setupReply setupRefusal unlessRefused if_then_else_
 setup-refused u z h e = rw (h, e) refl
 
-pub setup-accepted : (u : Setup) (z : State) → setupInRange u ≡ true → z ≡ freshState u → record { says = answers []; state = z; buffer = [] } ≡ setupReply u
+pub setup-accepted : (u : Setup) (z : State) → setupInRange u ≡ true → z ≡ freshState u → record { says = granted []; state = z; buffer = [] } ≡ setupReply u
 unfolding setupReply setupRefusal unlessRefused if_then_else_
 setup-accepted u z h e = rw (h, e) refl

@@ -28,7 +28,7 @@ use Rattle.rules.specs.Sound.{sound, isJobOn}
 use Rattle.rules.specs.Windows.{woken, wokenAt}
 use Rattle.rules.specs.Taking.{putOffPositions, keptOf, nOf, newNumber, freePlaces, filled, newOrder, withOrder, taken}
 use Rattle.rules.specs.Refusals.{isDestinationOn}
-use Rattle.rules.specs.Calls.{Reply, answers, written, takingReply}
+use Rattle.rules.specs.Calls.{Reply, granted, written, takingReply}
 use Rattle.rules.proofs.Soundness.{sound-facts}
 use Rattle.rules.proofs.Taken.{Fits, Passed, fits-of, new-below, new-absent, new-room}
 use Rattle.rules.proofs.TakenLists.{queue-once, arrivals-once}
@@ -44,7 +44,7 @@ use Rattle.admission.proofs.Refusing.{Small, small-of, woken-table, kept-by-is,
 module _ (w : State) (now t : ℕ) (dests list : List ℕ) (st : State) (putoff : ℕ) (after : List ℕ)
     (counted : putoff ≡ length (putOffPositions w dests)) (wrote : after ≡ written (putOffPositions w dests) list) where
   pub replies-none :
-      st ≡ w → nOf w dests ≡ 0 → _≡_ {A = Reply} (record { says = answers (putoff ∷ []); state = st; buffer = after }) (takingReply w now t dests list)
+      st ≡ w → nOf w dests ≡ 0 → _≡_ {A = Reply} (record { says = granted (putoff ∷ []); state = st; buffer = after }) (takingReply w now t dests list)
   unfolding takingReply if_then_else_
   replies-none same h = rw (same, counted, wrote, eq-eqb (nOf w dests) 0 h)
 
@@ -53,7 +53,7 @@ module _ (w : State) (now t : ℕ) (dests list : List ℕ) (st : State) (putoff 
       → j ≡ newNumber w
       → st ≡ taken w (newNumber w) t now (keptOf w dests)
       → nOf w dests ≢ 0
-      → _≡_ {A = Reply} (record { says = answers (j ∷ putoff ∷ []); state = st; buffer = after }) (takingReply w now t dests list)
+      → _≡_ {A = Reply} (record { says = granted (j ∷ putoff ∷ []); state = st; buffer = after }) (takingReply w now t dests list)
   unfolding takingReply if_then_else_
   replies-some j e same h = rw (same, e, counted, wrote, ne-eqb (nOf w dests) 0 h)
 

@@ -18,7 +18,7 @@ use Rattle.eligibility.specs.Eligibility.{Reads}
 use Rattle.columns.proofs.Shapes.{shaped}
 use Rattle.preemption.proofs.Credits.{index-fits, same-below}
 use Rattle.eligibility.proofs.Lefts.{left-is, fits-left}
-use Rattle.eligibility.proofs.Pairs.{tally-reads, place-open, first-read}
+use Rattle.eligibility.proofs.Pairs.{pairs-read, place-open, first-read}
 use Rattle.choice.proofs.Glue.{TurnRead, adds-read, turn-read, not-found, next-open, placed-read, entry-read}
 use Rattle.choice.proofs.Chosen.{slots-read, arrived-read, sold-read, job-read, nothing-chosen, all-chosen}
 use Rattle.choice.proofs.choose.Statement.{statement}
@@ -30,7 +30,7 @@ shape c = shaped (c .args .w) (c .good .0)
 
 tables : (c : tie.After-left-waiting) → Reads (c .before .before .before .before .before .before .before .before .before .before .before .before .before .args .w) (c .left-waiting .result) (readyIn (c .before .before .before .before .before .before .before .before .before .before .before .before .before .args .pairs .now) (c .before .before .before .before .before .before .open-table .result))
 tables c =
-    tally-reads (c .before .before .before .before .before .before .before .before .before .before .before .before .before .args .w) (shape (c .before .before .before .before .before .before .before .before .before .before .before .before .before)) (c .before .before .before .before .before .before .before .before .before .before .before .before .before .pre .0) (c .before .before .before .before .before .before .open-table .result) (c .before .before .before .before .before .before .open-table .ensures) (c .before .before .before .before .before .before .before .before .before .before .before .before .before .args .pairs .now) (c .before .before .before .before .before .before .before .before .before .before .before .before .before .pre .3)
+    pairs-read (c .before .before .before .before .before .before .before .before .before .before .before .before .before .args .w) (shape (c .before .before .before .before .before .before .before .before .before .before .before .before .before)) (c .before .before .before .before .before .before .before .before .before .before .before .before .before .pre .0) (c .before .before .before .before .before .before .open-table .result) (c .before .before .before .before .before .before .open-table .ensures) (c .before .before .before .before .before .before .before .before .before .before .before .before .before .args .pairs .now) (c .before .before .before .before .before .before .before .before .before .before .before .before .before .pre .3)
     (c .left-waiting .result)
     (left-is (c .before .before .before .before .before .before .before .before .before .before .before .before .before .args .w .jobs) (c .before .before .before .before .before .before .before .before .before .before .before .before .before .args .w .entries .kind) (c .before .before .before .before .before .before .before .before .before .before .before .before .before .args .w .entries .job) (adds-read (c .before .before .before .before .before .before .before .before .before .before .before .before .before .args .w) (shape (c .before .before .before .before .before .before .before .before .before .before .before .before .before)) (c .before .before .before .before .before .before .before .before .before .before .before .before .before .pre .0)) (c .left-waiting .result) (c .left-waiting .ensures .0) (c .left-waiting .ensures .1))
 

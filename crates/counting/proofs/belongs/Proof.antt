@@ -1,7 +1,7 @@
--- `counting::belongs` meets its contract: each false answer is a law of proofs/TallyLaws.antt.
+-- `counting::belongs` meets its contract: each false answer is a law of proofs/EntryLaws.antt.
 use borrow.Author.Needs.{needs}
 use borrow.Author.Tests.{not-true, not-false}
-use Rattle.counting.proofs.TallyLaws.{belongs-no-job, belongs-no-destination, belongs-no-mark, belongs-is}
+use Rattle.counting.proofs.EntryLaws.{belongs-no-job, belongs-no-destination, belongs-no-mark, belongs-is}
 use Rattle.counting.proofs.belongs.Statement.{statement}
 use Rattle.counting.proofs.belongs.Tie as tie
 

@@ -6,8 +6,8 @@ use Rattle.laws.proofs.Choice.{true-not-false}
 use borrow.Author.Tests.{not-true, not-false}
 use Rattle.rules.specs.State.{at}
 use Rattle.counting.specs.Counting.{columns}
-use Rattle.counting.proofs.TallyLaws.{counts-within, counts-room, Counted, counted-none, counted-free, counted-not, counted-inside, counted-kind}
-use Rattle.counting.proofs.TallyLaws.{counted-waiting, counted-busy, counted-row-fits, counted-column-fits, counted-done}
+use Rattle.counting.proofs.EntryLaws.{counts-within, counts-room, Counted, counted-none, counted-free, counted-not, counted-inside, counted-kind}
+use Rattle.counting.proofs.EntryLaws.{counted-waiting, counted-busy, counted-row-fits, counted-column-fits, counted-done}
 use Rattle.counting.proofs.count_entries.Statement.{statement}
 use Rattle.counting.proofs.count_entries.Tie as tie
 
@@ -48,7 +48,7 @@ home-below : (c : tie.Else2 Inv-loop μ-loop) → at (begun c .args .home .now) 
 home-below c = begun c .pre .1 .1 .0 (destination c) (inside c .1)
 
 loop-holds : tie.Need-loop-holds Inv-loop μ-loop
-loop-holds c = (counted-none _ _ (c .pre .1 .1 .1 .0) (c .pre .1 .1 .1 .1), omega arith)
+loop-holds c = (counted-none _ _ (c .pre .1 .1 .1), omega arith)
 
 element-copy-out-k : tie.Need-element-copy-out-k Inv-loop μ-loop
 element-copy-out-k c = omega arith
@@ -79,12 +79,12 @@ belongs-requires c κs = (c .before .before .before .before .before .before .bef
 
 returns : tie.Need-returns Inv-loop μ-loop
 returns c = (
-  counted-not _ _ _ _ _ _ (c .before .before .before .before .before .before .before .before .before .loop .inv .0)
-      (c .before .before .before .before .before .before .if1 .left)
-      (c .before .before .before .before .wide .result) (c .before .before .wide2 .result)
-      (c .before .before .before .before .wide .ensures .0) (c .before .before .wide2 .ensures .0) _
-      (c .before .belongs .ensures) (not-true _ (c .if2 .taken)) (omega arith) _ refl,
-  λ g. true-not-false g refl,
+  counted-not _ _ _ _ _ _ (c .before .before .before .before .before .before .before .before .before .before .loop .inv .0)
+      (c .before .before .before .before .before .before .before .if1 .left)
+      (c .before .before .before .before .before .wide .result) (c .before .before .before .wide2 .result)
+      (c .before .before .before .before .before .wide .ensures .0) (c .before .before .before .wide2 .ensures .0) _
+      (c .before .before .belongs .ensures) (not-true _ (c .before .if2 .taken)) (omega arith) _ refl,
+  record { counted = λ g. true-not-false g refl; none = λ _. refl },
 )
 
 mul-pairs : tie.Need-mul-pairs Inv-loop μ-loop
@@ -188,7 +188,7 @@ column-sums-requires : tie.Need-column-sums-requires Inv-loop μ-loop
 column-sums-requires c κs = λ d l. (let f = counted-column-fits _ _ _ _ _ _ (c .before .before .before .before .loop .inv .0) d l in omega (arith, f))
 
 returns-2 : tie.Need-returns-2 Inv-loop μ-loop
-returns-2 c = let e : c .before .before .before .before .before .loop .e ≡ 512 = omega arith in let s = rw e at (c .before .before .before .before .before .loop .inv .0) in (counted-done _ _ refl _ s (c .before .before .row-sums .ensures .0) (c .before .before .row-sums .ensures .1) (c .column-sums .ensures .0) (c .column-sums .ensures .1), λ g. s .pairs)
+returns-2 c = let e : c .before .before .before .before .before .loop .e ≡ 512 = omega arith in let s = rw e at (c .before .before .before .before .before .loop .inv .0) in (counted-done _ _ refl _ s (c .before .before .row-sums .ensures .0) (c .before .before .row-sums .ensures .1) (c .column-sums .ensures .0) (c .column-sums .ensures .1), record { counted = λ _. s .pairs; none = λ f. true-not-false refl f })
 
 pub count-entries-spec : {M : Type 1} → statement M
 count-entries-spec =

@@ -17,7 +17,7 @@ same-length : tie.Need-same-length
 same-length c = search needs
 
 returns : tie.Need-returns
-returns c = made _ _ _ (c .before .before .before .before .before .pick .ensures) (c .before .before .before .put-pick .ensures)
+returns c = made _ _ _ (c .before .before .before .before .before .pick .ensures .0) (c .before .before .before .put-pick .ensures)
 
 pub make-pick-spec : {M : Type 1} → statement M
 make-pick-spec = tie.close (tie.spec pick-requires put-pick-requires same-length returns)

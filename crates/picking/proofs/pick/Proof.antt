@@ -7,17 +7,18 @@ use mathlib.Core.Bool.{true}
 use mathlib.Core.List.{List, [], _∷_}
 use native.Mathlib.Nat.{le-refl}
 use native.Mathlib.Omega.{arith}
-use lib.ListN.{getD-replicate}
 use borrow.Author.Needs.{needs}
 use borrow.Author.Tests.{not-true, not-false}
 use Rattle.laws.specs.Sequence.{moveBefore}
 use Rattle.rules.specs.declared.State.{State}
+use Rattle.rules.specs.declared.PickAnswer.{PickAnswer}
+use Rattle.rules.specs.declared.PickAnswer.the-variants
 use Rattle.rules.specs.State.{listOf, listed}
 use Rattle.rules.specs.Windows.{woken}
 use Rattle.rules.specs.Preemption.{preempting}
 use Rattle.rules.specs.Pick.{handedOut}
 use Rattle.rules.specs.Refusals.{pickRefusal}
-use Rattle.rules.specs.Calls.{answers, afterPick}
+use Rattle.rules.specs.Calls.{granted, afterPick}
 use Rattle.rules.proofs.Shape.{Shaped}
 use Rattle.waking.proofs.WakingLaws.{none-due}
 use Rattle.counting.specs.Counting.{Paired}
@@ -27,7 +28,7 @@ use Rattle.picking.specs.May.{MayPreempt, MayHandOut}
 use Rattle.columns.proofs.Shapes.{same-list}
 use Rattle.picking.proofs.WriteLaws.{preempt-is, hand-out-is}
 use Rattle.picking.proofs.PickLaws.{Ready, ready, fits-clock, woken-built, own-sound, gives-nothing, may-hand-plain, gives-plain, may-move, may-hand-moved, gives-moved}
-use Rattle.picking.proofs.PickReplies.{pick-unsound, pick-early, pick-late, pick-unrefused, pick-made}
+use Rattle.picking.proofs.PickReplies.{pick-unsound, pick-early, pick-late, pick-unrefused, pick-made, with-found}
 use Rattle.rules.proofs.Soundness.{few-destinations}
 use Rattle.picking.proofs.pick.Statement.{statement}
 use Rattle.picking.proofs.pick.Tie as tie
@@ -133,31 +134,37 @@ may-hand c =
 -- what is given once the entry is handed out
 given : (c : tie.Joined6) (out : State) → out ≡ handedOut (c .if6 .next) (choice (met c) .transport) (choice (met c) .job) (choice (met c) .place) (choice (met c) .entry)
     → record {
-      says = answers (choice (met c) .job ∷ choice (met c) .entry ∷ state (at-start (met c)) .ticket ∷ choice (met c) .passed ∷ []);
+      says = granted (choice (met c) .job ∷ choice (met c) .entry ∷ state (at-start (met c)) .ticket ∷ choice (met c) .passed ∷ []);
       state = out;
       buffer = [];
     } ≡ afterPick (woken (state (at-start (met c))) (time (at-start (met c)))) (time (at-start (met c)))
 given c out h =
-    ap (λ t. record { says = answers (choice (met c) .job ∷ choice (met c) .entry ∷ t ∷ choice (met c) .passed ∷ []); state = out; buffer = [] }) (ticket-kept (at-waking (met c)))
+    ap (λ t. record { says = granted (choice (met c) .job ∷ choice (met c) .entry ∷ t ∷ choice (met c) .passed ∷ []); state = out; buffer = [] }) (ticket-kept (at-waking (met c)))
     ∙ ⊎-elim
     (λ a. gives-plain (state (at-start (met c))) (time (at-start (met c))) (start (at-start (met c))) _ (awake (at-waking (met c))) (choice (met c)) (chose (met c) .choose .ensures) (found (met c)) out (a .0) (h ∙ ap (λ m. handedOut m (choice (met c) .transport) (choice (met c) .job) (choice (met c) .place) (choice (met c) .entry)) (a .1)))
     (λ a. gives-moved (state (at-start (met c))) (time (at-start (met c))) (start (at-start (met c))) _ (awake (at-waking (met c))) (choice (met c)) (chose (met c) .choose .ensures) (found (met c)) (c .if6 .next) out (a .0) (a .1) h)
     (from c)
 
 sound-with-requires : tie.Need-sound-with-requires
-sound-with-requires c κs = (refl, λ k l. getD-replicate 1024 k 0 0 l)
+sound-with-requires c κs = refl
 
 returns : tie.Need-returns
-returns c = pick-unsound (c .before .before .before .args .s) (c .before .before .before .args .now) (sym (c .before .sound-with .ensures .0) ∙ not-true _ (c .if1 .taken))
+returns c =
+    with-found (c .before .before .before .args .s) (c .before .before .before .args .now) (PickAnswer.Refused 1) _ (shaped (c .before .before .before .args .s) (c .before .before .before .good .0))
+    (pick-unsound (c .before .before .before .args .s) (c .before .before .before .args .now) (sym (c .before .sound-with .ensures .0) ∙ not-true _ (c .if1 .taken)))
 
 cast-if2 : tie.Need-cast-if2
 cast-if2 c = search needs
 
 returns-2 : tie.Need-returns-2
-returns-2 c = pick-early (c .before .before .before .before .before .args .s) (c .before .before .before .before .before .args .now) (sym (c .before .before .before .sound-with .ensures .0) ∙ not-false _ (c .before .before .if1 .left)) (c .if2 .taken)
+returns-2 c =
+    with-found (c .before .before .before .before .before .args .s) (c .before .before .before .before .before .args .now) (PickAnswer.Refused 3) _ (shaped (c .before .before .before .before .before .args .s) (c .before .before .before .before .before .good .0))
+    (pick-early (c .before .before .before .before .before .args .s) (c .before .before .before .before .before .args .now) (sym (c .before .before .before .sound-with .ensures .0) ∙ not-false _ (c .before .before .if1 .left)) (c .if2 .taken))
 
 returns-3 : tie.Need-returns-3
-returns-3 c = pick-late (c .before .before .before .before .before .before .args .s) (c .before .before .before .before .before .before .args .now) (sym (c .before .before .before .before .sound-with .ensures .0) ∙ not-false _ (c .before .before .before .if1 .left)) (c .before .if2 .left) (c .if3 .taken)
+returns-3 c =
+    with-found (c .before .before .before .before .before .before .args .s) (c .before .before .before .before .before .before .args .now) (PickAnswer.Refused 3) _ (shaped (c .before .before .before .before .before .before .args .s) (c .before .before .before .before .before .before .good .0))
+    (pick-late (c .before .before .before .before .before .before .args .s) (c .before .before .before .before .before .before .args .now) (sym (c .before .before .before .before .sound-with .ensures .0) ∙ not-false _ (c .before .before .before .if1 .left)) (c .before .if2 .left) (c .if3 .taken))
 
 cast-next : tie.Need-cast-next
 cast-next c = fits-clock (time c) (start c .early)
@@ -174,11 +181,13 @@ choose-requires c κs = (
   own-sound (state (c .before .before .before .before)) (time (c .before .before .before .before)) (start (c .before .before .before .before)) _ (awake (c .before)),
   subst (λ (w : State). w .clock ≤ time (c .before .before .before .before)) (sym (awake (c .before))) (le-refl (time (c .before .before .before .before))),
   start (c .before .before .before .before) .early,
-  own-pairs (state (passed (c .before))) (time (passed (c .before))) (awake (c .before)) (c .before .before .before .before .before .before .before .before .sound-with .ensures .1 (not-false _ (c .before .before .before .before .before .before .before .if1 .left))),
+  own-pairs (state (passed (c .before))) (time (passed (c .before))) (awake (c .before)) (c .before .before .before .before .before .before .before .before .sound-with .ensures .1 .counted (not-false _ (c .before .before .before .before .before .before .before .if1 .left))),
 )
 
 returns-4 : tie.Need-returns-4
-returns-4 c = pick-made (state (c .before .before .before .before .before .before .before)) (time (c .before .before .before .before .before .before .before)) _ (unrefused (c .before .before .before .before .before .before .before)) (gives-nothing (state (c .before .before .before .before .before .before .before)) (time (c .before .before .before .before .before .before .before)) (start (c .before .before .before .before .before .before .before)) _ (awake (c .before .before .before .before)) (c .before .before .choose .result) (c .before .before .choose .ensures) (not-true _ (c .if5 .taken)))
+returns-4 c =
+    with-found (state (c .before .before .before .before .before .before .before)) (time (c .before .before .before .before .before .before .before)) PickAnswer.Nothing _ (shape (c .before .before .before .before .before .before .before))
+    (pick-made (state (c .before .before .before .before .before .before .before)) (time (c .before .before .before .before .before .before .before)) _ (unrefused (c .before .before .before .before .before .before .before)) (gives-nothing (state (c .before .before .before .before .before .before .before)) (time (c .before .before .before .before .before .before .before)) (start (c .before .before .before .before .before .before .before)) _ (awake (c .before .before .before .before)) (c .before .before .choose .result) (c .before .before .choose .ensures) (not-true _ (c .if5 .taken))))
 
 cast-lane : tie.Need-cast-lane
 cast-lane c = search needs
@@ -256,12 +265,17 @@ next-ticket-requires c κs = search needs
 add-next : tie.Need-add-next
 add-next c = omega (arith, may-hand (c .before .before .before .before .before .before .before .before .before .before .before .before .before .before .before .before .before .before .before) .lane)
 
+-- from the last place back to where the ways of the preemption met
+abbrev last : tie.After-struct-known10 → tie.Joined6
+last c = c .before .before .before .before .before .before .before .before .before .before .before .before .before .before .before .before .before .before .before
+
 returns-5 : tie.Need-returns-5
 returns-5 c =
-    pick-made (state (c .before .before .before .before .before .before .before .before .before .before .before .before .before .before .before .before .before .before .before .before .before .before .before .before .before .before .before .before .before .before)) (time (c .before .before .before .before .before .before .before .before .before .before .before .before .before .before .before .before .before .before .before .before .before .before .before .before .before .before .before .before .before .before)) _ (unrefused (c .before .before .before .before .before .before .before .before .before .before .before .before .before .before .before .before .before .before .before .before .before .before .before .before .before .before .before .before .before .before))
-    (given (c .before .before .before .before .before .before .before .before .before .before .before .before .before .before .before .before .before .before .before) _
-    (hand-out-is (c .before .before .before .before .before .before .before .before .before .before .before .before .before .before .before .before .before .before .before .if6 .next) (c .before .before .before .before .before .before .before .before .before .before .before .before .before .before .before .before .before .before .before .before .before .before .before .before .before .choose .result .transport) (c .before .before .before .before .before .before .before .before .before .before .before .before .before .before .before .before .before .before .before .before .before .before .before .before .before .choose .result .job) (c .before .before .before .before .before .before .before .before .before .before .before .before .before .before .before .before .before .before .before .before .before .before .before .before .before .choose .result .place) (c .before .before .before .before .before .before .before .before .before .before .before .before .before .before .before .before .before .before .before .before .before .before .before .before .before .choose .result .entry) (c .before .before .before .before .before .before .before .before .before .before .before .before .before .before .before .read .result) (c .before .next-ticket .result) _ _ _ _ _ _
-    (c .before .before .before .before .before .before .before .before .before .before .before .before .before .before .before .read .ensures) (c .before .next-ticket .ensures) (c .before .before .before .before .before .before .before .before .before .before .before .before .before .put-kind .ensures) (c .before .before .before .before .before .before .before .before .before .before .before .put-ticket .ensures) (c .before .before .before .before .before .before .before .before .before .add2 .ensures) (c .before .before .before .before .before .before .put2 .ensures) (c .before .before .before .before .one-more .ensures) (c .before .before .add3 .ensures)))
+    with-found (state (at-start (met (last c)))) (time (at-start (met (last c)))) (PickAnswer.Picked _ _ _ _) _ (shape (at-start (met (last c))))
+    (pick-made (state (at-start (met (last c)))) (time (at-start (met (last c)))) _ (unrefused (at-start (met (last c))))
+    (given (last c) _
+    (hand-out-is (last c .if6 .next) (choice (met (last c)) .transport) (choice (met (last c)) .job) (choice (met (last c)) .place) (choice (met (last c)) .entry) (c .before .before .before .before .before .before .before .before .before .before .before .before .before .before .before .read .result) (c .before .next-ticket .result) _ _ _ _ _ _
+    (c .before .before .before .before .before .before .before .before .before .before .before .before .before .before .before .read .ensures) (c .before .next-ticket .ensures) (c .before .before .before .before .before .before .before .before .before .before .before .before .before .put-kind .ensures) (c .before .before .before .before .before .before .before .before .before .before .before .put-ticket .ensures) (c .before .before .before .before .before .before .before .before .before .add2 .ensures) (c .before .before .before .before .before .before .put2 .ensures) (c .before .before .before .before .one-more .ensures) (c .before .before .add3 .ensures))))
 
 pub pick-spec : {M : Type 1} → statement M
 pick-spec =

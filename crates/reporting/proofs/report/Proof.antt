@@ -5,7 +5,7 @@ use mathlib.Core.Logic.{⊎-elim}
 use mathlib.Core.Bool.{true, false}
 use mathlib.Core.List.{List, []}
 use native.Mathlib.Omega.{arith}
-use lib.ListN.{length, getD, getD-replicate}
+use lib.ListN.{length, getD}
 use borrow.Author.Needs.{needs}
 use borrow.Author.Tests.{not-true, not-false}
 use Rattle.laws.specs.Range.{tableTo}
@@ -50,11 +50,14 @@ lent c = start c .args .list .now
 shape : (c : tie.After-refusal) → Shaped (state c)
 shape c = shaped (state c) (start c .good .0)
 
-columns : (c : tie.After-refusal) → HasColumns (state c) (state c .clock) (state c .entries .kind) (state c .entries .ticket)
-columns c = record { whole = sym (c .before .before .before .before .before .sound-with .ensures .0) ∙ not-false _ (c .before .before .before .before .if1 .left); clock = refl; kinds = refl; issued = refl }
+abbrev came-in : tie.After-refusal-arg2 → State
+came-in c = c .before .before .before .before .before .before .before .args .s
+
+columns : (c : tie.After-refusal-arg2) → HasColumns (came-in c) (came-in c .clock) (came-in c .entries .kind) (came-in c .entries .ticket)
+columns c = record { whole = sym (c .before .before .before .before .sound-with .ensures .0) ∙ not-false _ (c .before .before .before .if1 .left); clock = refl; kinds = refl; issued = refl }
 
 refusal-is : (c : tie.After-refusal) → c .refusal .result ≡ reportRefusal (state c) (time c) (entry c) (start c .args .ticket) (lent c)
-refusal-is c = c .refusal .ensures (state c) (columns c) (lent c) refl
+refusal-is c = c .refusal .ensures (state c) (columns (c .before)) (lent c) refl
 
 -- the refusals have passed
 accepted : (c : tie.Else2) → reportRefusal (state (c .before)) (time (c .before)) (entry (c .before)) (start (c .before) .args .ticket) (lent (c .before)) ≡ 0
@@ -86,13 +89,13 @@ awake c =
     (c .if3 .came)
 
 sound-with-requires : tie.Need-sound-with-requires
-sound-with-requires c κs = (refl, λ k l. getD-replicate 1024 k 0 0 l)
+sound-with-requires c κs = refl
 
 returns : tie.Need-returns
 returns c = report-unsound (c .before .before .before .before .args .s) (c .before .before .before .before .args .now) (c .before .before .before .before .args .entry) (c .before .before .before .before .args .ticket) (c .before .before .before .before .args .outcome) (c .before .before .before .before .args .list .now) (sym (c .before .sound-with .ensures .0) ∙ not-true _ (c .if1 .taken))
 
 refusal-requires : tie.Need-refusal-requires
-refusal-requires c κs = tt
+refusal-requires c κs = (came-in c, columns c)
 
 returns-2 : tie.Need-returns-2
 returns-2 c = report-refused (state (c .before)) (time (c .before)) (entry (c .before)) (start (c .before) .args .ticket) (start (c .before) .args .outcome) (lent (c .before)) (c .before .refusal .result) (refusal-is (c .before)) (c .if2 .taken)
@@ -191,7 +194,7 @@ staying-requires : tie.Need-staying-requires
 staying-requires c κs = (
   asks (c .before .before .before .before .before .before .before .before .before .before .before .before .before .before .before .before .before .before .before .before .before .before .before .before .before .before .before .before .before .before .before .before .before) .destination,
   asks (c .before .before .before .before .before .before .before .before .before .before .before .before .before .before .before .before .before .before .before .before .before .before .before .before .before .before .before .before .before .before .before .before .before) .job,
-  λ dies. others-stay _ _ _ _ (can (c .before .before .before .before .before .before .before .before .before .before .before .before .before .before .before .before .before .before .before .before .before .before .before .before .before .before .before .before .before .before .before .before .before)) (c .before .before .before .before .before .before .before .before .before .before .put-off .ensures) (c .before .before .before .before .before .before .put-kind .ensures) (c .before .before .before .before .before .before .before .before .before .before .before .before .before .before .before .before .before .before .before .before .before .before .before .before .before .before .before .before .before .before .before .before .before .before .before .before .before .before .before .sound-with .ensures .1 (not-false _ (c .before .before .before .before .before .before .before .before .before .before .before .before .before .before .before .before .before .before .before .before .before .before .before .before .before .before .before .before .before .before .before .before .before .before .before .before .before .before .if1 .left))),
+  λ dies. others-stay _ _ _ _ (can (c .before .before .before .before .before .before .before .before .before .before .before .before .before .before .before .before .before .before .before .before .before .before .before .before .before .before .before .before .before .before .before .before .before)) (c .before .before .before .before .before .before .before .before .before .before .put-off .ensures) (c .before .before .before .before .before .before .put-kind .ensures) (c .before .before .before .before .before .before .before .before .before .before .before .before .before .before .before .before .before .before .before .before .before .before .before .before .before .before .before .before .before .before .before .before .before .before .before .before .before .before .before .sound-with .ensures .1 .counted (not-false _ (c .before .before .before .before .before .before .before .before .before .before .before .before .before .before .before .before .before .before .before .before .before .before .before .before .before .before .before .before .before .before .before .before .before .before .before .before .before .before .if1 .left))),
   λ lives. others-live _ _ _ _ (can (c .before .before .before .before .before .before .before .before .before .before .before .before .before .before .before .before .before .before .before .before .before .before .before .before .before .before .before .before .before .before .before .before .before)) (c .before .before .before .before .before .before .before .before .before .before .put-off .ensures) (c .before .before .before .before .before .before .put-kind .ensures) lives,
 )
 

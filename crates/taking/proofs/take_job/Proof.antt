@@ -1,6 +1,5 @@
 -- `taking::take_job` meets its contract: refused, or what `take` gives. Assumes nothing.
 use mathlib.Core.Path.{refl, sym, _∙_}
-use lib.ListN.{getD-replicate}
 use borrow.Author.Needs.{needs}
 use borrow.Author.Tests.{not-true, not-false}
 use Rattle.taking.proofs.JobReplies.{job-unsound, job-refused, job-taken}
@@ -8,7 +7,7 @@ use Rattle.taking.proofs.take_job.Statement.{statement}
 use Rattle.taking.proofs.take_job.Tie as tie
 
 sound-with-requires : tie.Need-sound-with-requires
-sound-with-requires c κs = (refl, λ k l. getD-replicate 1024 k 0 0 l)
+sound-with-requires c κs = refl
 
 returns : tie.Need-returns
 returns c = job-unsound (c .before .before .before .before .before .args .s) (c .before .before .before .before .before .args .now) (c .before .before .before .before .before .args .transport) (c .before .before .before .before .before .args .dests .now) (c .before .before .before .before .before .args .list .now) (sym (c .before .sound-with .ensures .0) ∙ not-true _ (c .if1 .taken))

@@ -18,25 +18,25 @@ use Rattle.laws.proofs.Both.{and-4}
 use Rattle.laws.proofs.All.{all-false-of, all-more}
 use Rattle.laws.proofs.Count.{count-step, count-le-bound}
 use Rattle.rules.specs.State.{at}
-use Rattle.counting.specs.declared.Tally.{Tally}
-use Rattle.counting.specs.Counting.{belongsAt, Columns, belongsTest, entryTest, tallyTo, Counts, Tallied}
+use Rattle.counting.specs.declared.EntryCounts.{EntryCounts}
+use Rattle.counting.specs.Counting.{belongsAt, Columns, belongsTest, entryTest, countsTo, Counts, noPairs, noCounts, RightCounts}
 use Rattle.counting.proofs.PairLaws.{row-is, row-fits, column-is, column-fits}
 
 module _ (kind : List ℕ) (v : ℕ) (key : ℕ → ℕ) (m : ℕ) where
   pub counts-none : (table : List ℕ) → length table ≡ m → ((x : ℕ) → x < m → at table x ≡ 0) → Counts kind v key m 0 table
-  unfolding tallyTo countTo
+  unfolding countsTo countTo
   counts-none table e h = record { size = e; counts = h }
 
   module _ (n : ℕ) (table : List ℕ) (s : Counts kind v key m n table) where
     pub counts-within : (x : ℕ) → x < m → at table x ≤ n
-    unfolding tallyTo
+    unfolding countsTo
     counts-within x l = omega (arith, s .counts x l, count-le-bound (λ e. eqb (at kind e) v && eqb (key e) x) n)
 
     pub counts-room : (x : ℕ) → x < m → n < 512 → Fits w16 (at table x + 1)
     counts-room x l k = omega (arith, counts-within x l)
 
     pub counts-miss : at kind n ≢ v → Counts kind v key m (n + 1) table
-    unfolding tallyTo
+    unfolding countsTo
     counts-miss ne =
         record {
           size = s .size;
@@ -50,7 +50,7 @@ module _ (kind : List ℕ) (v : ℕ) (key : ℕ → ℕ) (m : ℕ) where
         }
 
     pub counts-hit : (y : ℕ) → at kind n ≡ v → y ≡ key n → y < m → Counts kind v key m (n + 1) (set table y (at table y + 1))
-    unfolding tallyTo
+    unfolding countsTo
     counts-hit y e q l =
         record {
           size = length-set table y (at table y + 1) ∙ s .size;
@@ -134,12 +134,11 @@ zeros : (m x : ℕ) → x < m → at (replicate m 0) x ≡ 0
 zeros m x l = getD-replicate m x 0 0 l
 
 module _ (k : Columns) where
-  pub counted-none : (p : List ℕ) → length p ≡ 1024 → ((x : ℕ) → x < 1024 → at p x ≡ 0)
-      → Counted k 0 p (replicate 32 0) (replicate 32 0) (replicate 4 0)
+  pub counted-none : (p : List ℕ) → p ≡ noPairs → Counted k 0 p (replicate 32 0) (replicate 32 0) (replicate 4 0)
   unfolding allTo
-  counted-none p e z =
+  counted-none p e =
       record {
-        pairs = counts-none _ _ _ _ _ e z;
+        pairs = rw e (counts-none _ _ _ _ _ refl (zeros 1024));
         busy = counts-none _ _ _ _ _ refl (zeros 32);
         to = counts-none _ _ _ _ _ refl (zeros 32);
         on = counts-none _ _ _ _ _ refl (zeros 4);
@@ -175,8 +174,13 @@ module _ (k : Columns) where
       tested =
           rw (ne-eqb (at (k .kind) n) 0 used, kind-test (at (k .kind) n) used, told, ej, ed)
 
-      pub counted-not : leb (at (k .kind) n) 2 && r ≡ false → n < 512 → (a : Tally) → a .good ≡ false → Tallied k a
-      counted-not f l a g = record { right = g ∙ sym (all-false-of (entryTest k) 512 n l (tested ∙ f)); tables = λ t. true-not-false t g }
+      pub counted-not : leb (at (k .kind) n) 2 && r ≡ false → n < 512 → (a : EntryCounts) → a ≡ noCounts → RightCounts k a
+      counted-not f l a e =
+          record {
+            right = rw e (sym (all-false-of (entryTest k) 512 n l (tested ∙ f)));
+            tables = λ t. true-not-false t (ap (λ a. a .good) e);
+            none = λ _. e;
+          }
 
       module _ (right : leb (at (k .kind) n) 2 && r ≡ true) (long : length (k .present) ≡ 32) (few : k .destinations ≤ 32) where
         pub counted-inside : (j < 32) × (d < k .destinations) × (d < 32)
@@ -211,10 +215,10 @@ module _ (k : Columns) where
             }
 
   module _ (n : ℕ) (p b t o : List ℕ) (s : Counted k n p b t o) where
-    counted-row : (j : ℕ) → j < 32 → sumTo (λ d. at p (32 * j + d)) 32 ≡ tallyTo (k .kind) 1 (at (k .job)) n j
+    counted-row : (j : ℕ) → j < 32 → sumTo (λ d. at p (32 * j + d)) 32 ≡ countsTo (k .kind) 1 (at (k .job)) n j
     counted-row = row-is (k .kind) (k .job) (k .destination) p n (s .pairs) (s .inside)
 
-    counted-column : (d : ℕ) → d < 32 → sumTo (λ j. at p (32 * j + d)) 32 ≡ tallyTo (k .kind) 1 (at (k .destination)) n d
+    counted-column : (d : ℕ) → d < 32 → sumTo (λ j. at p (32 * j + d)) 32 ≡ countsTo (k .kind) 1 (at (k .destination)) n d
     counted-column = column-is (k .kind) (k .job) (k .destination) p n (s .pairs) (s .inside)
 
     pub counted-row-fits : (j : ℕ) → j < 32 → sumTo (λ d. at p (32 * j + d)) 32 ≤ n
@@ -224,7 +228,7 @@ module _ (k : Columns) where
     counted-column-fits = column-fits (k .kind) (k .job) (k .destination) p n (s .pairs) (s .inside)
 
   pub counted-done :
-      (r : Tally)
+      (r : EntryCounts)
       → r .good ≡ true
       → (p : List ℕ)
       → Counted k 512 p (r .busy) (r .to) (r .on)
@@ -232,7 +236,7 @@ module _ (k : Columns) where
       → ((j : ℕ) → j < 32 → at (r .waiting) j ≡ sumTo (λ d. at p (32 * j + d)) 32)
       → length (r .held) ≡ 32
       → ((d : ℕ) → d < 32 → at (r .held) d ≡ sumTo (λ j. at p (32 * j + d)) 32)
-      → Tallied k r
+      → RightCounts k r
   counted-done r g p s ew w eh h =
       record {
         right = g ∙ sym (s .right);
@@ -244,4 +248,5 @@ module _ (k : Columns) where
               to = s .to;
               on = s .on;
             };
+        none = λ f. true-not-false g f;
       }
