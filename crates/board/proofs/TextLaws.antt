@@ -31,19 +31,19 @@ pub clock-length : (clock w : ℕ) → w ≡ length (decimal clock) → 3 + w + 
 unfolding clockLine
 clock-length clock w e = simp length-append (omega arith)
 
-pub live-length : (h : Health) (u : Sums) (busy w q : ℕ) → h ≡ Live u → w ≡ length (decimal (u .window)) → q ≡ length (decimal busy) → 6 + w + 1 + q ≡ length (healthText h busy)
+pub live-length : (h : Health) (u : Sums) (busy w q : ℕ) → h ≡ Live u → w ≡ length (decimal (u .window)) → q ≡ length (decimal busy) → 5 + w + 1 + q ≡ length (healthText h busy)
 unfolding healthText
 live-length h u busy w q e f g = rw e (simp length-append (omega arith))
 
-pub dead-length : (h : Health) (end busy w : ℕ) → h ≡ Dead end → w ≡ length (decimal end) → 6 + w ≡ length (healthText h busy)
+pub dead-length : (h : Health) (end busy w : ℕ) → h ≡ Dead end → w ≡ length (decimal end) → 5 + w ≡ length (healthText h busy)
 unfolding healthText
 dead-length h end busy w e f = rw e (simp length-append (omega arith))
 
-pub line-length : (d : ℕ) (h : Health) (busy w q : ℕ) → w ≡ length (decimal d) → q ≡ length (healthText h busy) → 2 + w + q + 1 ≡ length (destinationLine d h busy)
+pub line-length : (d : ℕ) (h : Health) (busy w q : ℕ) → w ≡ length (decimal d) → q ≡ length (healthText h busy) → 2 + w + 1 + q + 1 ≡ length (destinationLine d h busy)
 unfolding destinationLine
 line-length d h busy w q e f = simp length-append (omega arith)
 
-pub health-high : (h : Health) (busy : ℕ) → length (healthText h busy) ≤ 47
+pub health-high : (h : Health) (busy : ℕ) → length (healthText h busy) ≤ 46
 unfolding healthText
 health-high (Live u) busy = simp length-append (omega (arith, decimal-length (u .window), decimal-length busy))
 health-high (Dead end) busy = simp length-append (omega (arith, decimal-length end))

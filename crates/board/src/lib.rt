@@ -26,7 +26,8 @@ fn put_live(window: u64, busy: u16, buf: &mut [u8]) -> usize
     requires { ⌜ length (liveText window busy) ≤ length (now buf) ⌝ }
     ensures { λ r. ⌜ Wrote (liveText window busy) (now (buf .entry)) (now (buf .exit)) r ⌝ }
 {
-    let mut at = put_number(b" LIVE ", window, buf);
+    let mut at = put(b"LIVE", buf);
+    at += put_number(b" ", window, &mut buf[at..]);
     at += put_number(b" ", busy as u64, &mut buf[at..]);
     at
 }
@@ -35,7 +36,9 @@ fn put_dead(end: u64, buf: &mut [u8]) -> usize
     requires { ⌜ length (deadText end) ≤ length (now buf) ⌝ }
     ensures { λ r. ⌜ Wrote (deadText end) (now (buf .entry)) (now (buf .exit)) r ⌝ }
 {
-    put_number(b" DEAD ", end, buf)
+    let mut at = put(b"DEAD", buf);
+    at += put_number(b" ", end, &mut buf[at..]);
+    at
 }
 
 // LIVE with window and busy, or DEAD with the end second.
@@ -55,6 +58,7 @@ fn put_line(d: u64, h: Health, busy: u16, buf: &mut [u8]) -> usize
     ensures { λ r. ⌜ Wrote (destinationLine d h busy) (now (buf .entry)) (now (buf .exit)) r ⌝ }
 {
     let mut at = put_number(b"D ", d, buf);
+    at += put(b" ", &mut buf[at..]);
     at += put_health(h, busy, &mut buf[at..]);
     at += put(b"\n", &mut buf[at..]);
     at
@@ -64,15 +68,15 @@ fn health_length(h: Health, busy: u16) -> usize
     ensures { λ r. ⌜ r ≡ length (healthText h busy) ⌝ }
 {
     match h {
-        Health::Live(u) => 6 + decimal_length(u.window) + 1 + decimal_length(busy as u64),
-        Health::Dead(end) => 6 + decimal_length(end),
+        Health::Live(u) => 5 + decimal_length(u.window) + 1 + decimal_length(busy as u64),
+        Health::Dead(end) => 5 + decimal_length(end),
     }
 }
 
 fn line_length(d: u64, h: Health, busy: u16) -> usize
     ensures { λ r. ⌜ r ≡ length (destinationLine d h busy) ⌝ }
 {
-    2 + decimal_length(d) + health_length(h, busy) + 1
+    2 + decimal_length(d) + 1 + health_length(h, busy) + 1
 }
 
 // How long the text is. Of a state's own parts it is `boardText s` (`text-is` of proofs/); that there are at most 32

@@ -1,13 +1,11 @@
 -- What the case of a pick's answer tells, where the pick says what the rules say.
-use Prim.Native.Nat.{ℕ, zero, suc}
+use Prim.Native.Nat.{ℕ}
 use mathlib.Core.Path.{_≡_, refl, sym, _∙_, ap}
 use mathlib.Core.Bool.{Bool, true, false}
-use mathlib.Core.List.{[], _∷_}
 use native.Mathlib.Omega.{arith}
 use lib.ListN.{length}
 use Rattle.laws.specs.Choice.{if_then_else_}
 use Rattle.laws.specs.Range.{anyTo}
-use Rattle.laws.proofs.Choice.{case-bool}
 use Rattle.rules.specs.declared.State.{State}
 use Rattle.rules.specs.declared.PickAnswer.{PickAnswer}
 use Rattle.rules.specs.declared.PickAnswer.the-variants

@@ -19,18 +19,18 @@ decimalIn (suc n) x = if ltb x 10 then (48 + x) ∷ [] else decimalIn n (x / 10)
 unfoldable pub decimal : ℕ → List ℕ
 decimal x = decimalIn 19 x
 
--- "AT ", "D ", " LIVE ", " DEAD ", " " and the end of a line, byte 10
+-- "AT", "D", "the four bytes LIVE or DEAD"; the blank that parts, and the end of a line, byte 10
 abbrev pub atWord : List ℕ
-atWord = 65 ∷ 84 ∷ 32 ∷ []
+atWord = 65 ∷ 84 ∷ []
 
 abbrev pub lineWord : List ℕ
-lineWord = 68 ∷ 32 ∷ []
+lineWord = 68 ∷ []
 
 abbrev pub liveWord : List ℕ
-liveWord = 32 ∷ 76 ∷ 73 ∷ 86 ∷ 69 ∷ 32 ∷ []
+liveWord = 76 ∷ 73 ∷ 86 ∷ 69 ∷ []
 
 abbrev pub deadWord : List ℕ
-deadWord = 32 ∷ 68 ∷ 69 ∷ 65 ∷ 68 ∷ 32 ∷ []
+deadWord = 68 ∷ 69 ∷ 65 ∷ 68 ∷ []
 
 abbrev pub blank : List ℕ
 blank = 32 ∷ []
@@ -38,18 +38,22 @@ blank = 32 ∷ []
 abbrev pub lineEnd : List ℕ
 lineEnd = 10 ∷ []
 
+-- a number, and the blank before it
+abbrev pub numbered : ℕ → List ℕ
+numbered x = blank ++ decimal x
+
 -- "`AT` and the last accepted clock"
 unfoldable pub clockLine : ℕ → List ℕ
-clockLine clock = atWord ++ decimal clock ++ lineEnd
+clockLine clock = atWord ++ numbered clock ++ lineEnd
 
 -- "the four bytes LIVE or DEAD, then window and busy, or the end second"
 unfoldable pub healthText : Health → ℕ → List ℕ
-healthText (Live u) busy = liveWord ++ decimal (u .window) ++ blank ++ decimal busy
-healthText (Dead end) busy = deadWord ++ decimal end
+healthText (Live u) busy = liveWord ++ numbered (u .window) ++ numbered busy
+healthText (Dead end) busy = deadWord ++ numbered end
 
 -- "one line a destination .. : number, .."
 unfoldable pub destinationLine : ℕ → Health → ℕ → List ℕ
-destinationLine d h busy = lineWord ++ decimal d ++ healthText h busy ++ lineEnd
+destinationLine d h busy = lineWord ++ numbered d ++ blank ++ healthText h busy ++ lineEnd
 
 -- "rising": the lines of the destinations below n
 unfoldable pub linesOf : List Destination → List ℕ → ℕ → List ℕ

@@ -12,14 +12,17 @@ decimal-length-requires c κs = search needs
 add-result : tie.Need-add-result
 add-result c = omega (arith, digits-high _ (c .decimal-length .ensures))
 
+add-result-2 : tie.Need-add-result-2
+add-result-2 c = omega (arith, digits-high _ (c .decimal-length .ensures))
+
 health-length-requires : tie.Need-health-length-requires
 health-length-requires c κs = search needs
 
-add-result-2 : tie.Need-add-result-2
-add-result-2 c = let e = c .health-length .ensures in omega (arith, digits-high _ (c .before .decimal-length .ensures), health-high (c .before .before .args .h) (c .before .before .args .busy))
-
 add-result-3 : tie.Need-add-result-3
 add-result-3 c = let e = c .health-length .ensures in omega (arith, digits-high _ (c .before .decimal-length .ensures), health-high (c .before .before .args .h) (c .before .before .args .busy))
+
+add-result-4 : tie.Need-add-result-4
+add-result-4 c = let e = c .health-length .ensures in omega (arith, digits-high _ (c .before .decimal-length .ensures), health-high (c .before .before .args .h) (c .before .before .args .busy))
 
 returns : tie.Need-returns
 returns c = line-length _ _ _ _ _ (c .before .decimal-length .ensures) (c .health-length .ensures)
@@ -30,7 +33,8 @@ line-length-spec =
     (tie.spec
     decimal-length-requires
     add-result
-    health-length-requires
     add-result-2
+    health-length-requires
     add-result-3
+    add-result-4
     returns)

@@ -5,14 +5,14 @@ use Prim.Native.Nat.{_≤_}
 use native.Mathlib.Omega.{arith}
 use lib.ListN.{length}
 use Rattle.laws.proofs.Writing.{behind, start-fits, rest-fits, end-fits, front-fits}
-use Rattle.rules.specs.Board.{decimal, atWord, lineEnd, clockLine}
+use Rattle.rules.specs.Board.{numbered, atWord, lineEnd, clockLine}
 use Rattle.board.proofs.put_clock.Statement.{statement}
 use Rattle.board.proofs.put_clock.Tie as tie
 
 -- the buffer has room for the first part too
-first : (c : tie.Start) → length (atWord ++ decimal (c .args .clock)) ≤ length (c .args .buf .now)
+first : (c : tie.Start) → length (atWord ++ numbered (c .args .clock)) ≤ length (c .args .buf .now)
 unfolding clockLine
-first c = front-fits (atWord ++ decimal (c .args .clock)) lineEnd (c .pre)
+first c = front-fits (atWord ++ numbered (c .args .clock)) lineEnd (c .pre)
 
 slice-aggregate-put-number : tie.Need-slice-aggregate-put-number
 slice-aggregate-put-number c = search needs
