@@ -5,7 +5,10 @@
 //                                             999 before a call, and each byte of the lent text a '.'
 //     N CALL                                  the call N times; the answer is the last one's
 //     list A B                                the lent list after the last call, from A up to before B
-//     text A B                                the lent text
+//     text A B                                the lent text likewise, with each byte 10 shown as '|'
+//     bytes A B                               the lent text as numbers
+//     bits                                    for each field of the state, all its numbers joined by `|`
+//                                             (cases/src/bits.rt)
 //     sequence NOW N                          N deliveries, each picked and then reported as a success: their jobs,
 //                                             counted from 1
 //     keep                                    keeps the state
@@ -18,6 +21,7 @@
 ghost use Prim.Native.Nat.{_≤_};
 ghost use lib.ListN.{length};
 use calling::Reply;
+use cases::bits;
 use cases::change;
 use cases::lent;
 use cases::reading;
@@ -40,7 +44,8 @@ fn main() {
     let cases: &mut [u8] = &mut cases_space;
     let mut words_space = [0u64; 512];
     let words: &mut [u64] = &mut words_space;
-    let mut list_space = [0u16; 512];
+    // longer than a report needs
+    let mut list_space = [0u16; 600];
     let list: &mut [u16] = &mut list_space;
     let mut text_space = [0u8; 4096];
     let written: &mut [u8] = &mut text_space;
@@ -138,7 +143,7 @@ fn once(
     let n = line.len();
     let end = text::find(line, 0, n, 32);
     let kind = reading::kind_of(&line[..end]);
-    if 3 < kind {
+    if 5 < kind {
         return changing(kind, &line[end..], words, out, s);
     }
     let got = text::read_numbers(line, end, words);
@@ -155,7 +160,7 @@ fn once(
     calling(&line[..end], k, words, list, written, out, s)
 }
 
-// What is behind the names 1 to 3.
+// What is behind the names 1 to 5.
 fn looking(
     kind: u8,
     a: u64,
@@ -169,11 +174,15 @@ fn looking(
         let n = lent::put_places(out, list, a, b);
         return calling::left(s, n);
     }
-    if kind == 2 {
-        let n = lent::put_bytes(out, written, a, b);
+    if kind < 4 {
+        let n = lent::put_bytes(out, written, a, b, kind == 3);
         return calling::left(s, n);
     }
-    sequence(a, b, list, out, s)
+    if kind == 4 {
+        return sequence(a, b, list, out, s);
+    }
+    let n = bits::put_bits(out, s);
+    calling::left(s, n)
 }
 
 // One of the six calls, with the first k words.
@@ -213,10 +222,10 @@ fn changing(kind: u8, rest: &[u8], words: &mut [u64], out: &mut [u8], s: State) 
 }
 
 fn after_change(kind: u8, out: &mut [u8], s: State, next: State) -> Reply {
-    if kind == 4 {
+    if kind == 6 {
         return calling::left(next, 0);
     }
-    if kind == 5 {
+    if kind == 7 {
         let a = scheduler::ask(next, 0);
         let n = answer::ask(out, a);
         return calling::left(s, n);

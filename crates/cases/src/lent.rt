@@ -38,16 +38,30 @@ pub fn put_places(out: &mut [u8], list: &[u16], a: u64, b: u64) -> usize {
     answer::put_byte(out, at, 10)
 }
 
-// The text's bytes likewise.
-pub fn put_bytes(out: &mut [u8], written: &[u8], a: u64, b: u64) -> usize {
+// The text's bytes likewise: each as it is, a line end as a '|', or each as a number.
+pub fn put_bytes(out: &mut [u8], written: &[u8], a: u64, b: u64, numbers: bool) -> usize {
     let end = text::at_most(b, written.len());
     let mut i = text::at_most(a, end);
-    let mut at = answer::put(out, 0, b"text ");
+    let mut at = put_name(out, numbers);
     while i < end {
-        at = answer::put_byte(out, at, answer::shown(written[i]));
+        at = put_one(out, at, written[i], numbers);
         i += 1;
     }
     answer::put_byte(out, at, 10)
+}
+
+fn put_name(out: &mut [u8], numbers: bool) -> usize {
+    if numbers {
+        return answer::put(out, 0, b"bytes");
+    }
+    answer::put(out, 0, b"text ")
+}
+
+fn put_one(out: &mut [u8], at: usize, b: u8, numbers: bool) -> usize {
+    if numbers {
+        return answer::put_number(out, at, b as u64);
+    }
+    answer::put_byte(out, at, answer::shown(b))
 }
 
 // Repeats a job's destinations, which stand behind its first four words, until they are as many as the fourth says or

@@ -49,25 +49,34 @@ pub fn kind_of(name: &[u8]) -> u8 {
     if text::same(name, b"text") {
         return 2;
     }
-    if text::same(name, b"sequence") {
+    if text::same(name, b"bytes") {
         return 3;
     }
-    if text::same(name, b"set") {
+    if text::same(name, b"sequence") {
         return 4;
     }
-    if text::same(name, b"broken") {
+    if text::same(name, b"bits") {
         return 5;
     }
-    if text::same(name, b"range") {
+    if text::same(name, b"set") {
         return 6;
+    }
+    if text::same(name, b"broken") {
+        return 7;
+    }
+    if text::same(name, b"range") {
+        return 8;
     }
     0
 }
 
-// Whether all words were numbers, and two where something is looked at.
+// Whether all words were numbers, and as many as it takes where something is looked at: none for `bits`, else two.
 pub fn fits(whole: bool, kind: u8, k: usize) -> bool {
     if kind == 0 {
         return whole;
+    }
+    if kind == 5 {
+        return whole & (k == 0);
     }
     whole & (k == 2)
 }

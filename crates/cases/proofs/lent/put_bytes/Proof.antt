@@ -7,10 +7,10 @@ use Rattle.cases.proofs.lent.put_bytes.Statement.{statement}
 use Rattle.cases.proofs.lent.put_bytes.Tie as tie
 
 abbrev Inv-loop : tie.InvT-loop
-Inv-loop out₀ written a b end i₀ at₀ out i at = (length out ≡ length out₀) × (end ≤ length written)
+Inv-loop out₀ written a b numbers end i₀ at₀ out i at = (length out ≡ length out₀) × (end ≤ length written)
 
 abbrev μ-loop : tie.MeasureT-loop
-μ-loop out₀ written a b end i₀ at₀ out i at = end - i
+μ-loop out₀ written a b numbers end i₀ at₀ out i at = end - i
 
 at-most-requires : tie.Need-at-most-requires Inv-loop μ-loop
 at-most-requires c κs = search needs
@@ -18,23 +18,17 @@ at-most-requires c κs = search needs
 at-most-requires-2 : tie.Need-at-most-requires-2 Inv-loop μ-loop
 at-most-requires-2 c κs = search needs
 
-slice-aggregate-put : tie.Need-slice-aggregate-put Inv-loop μ-loop
-slice-aggregate-put c = search needs
-
-put-requires : tie.Need-put-requires Inv-loop μ-loop
-put-requires c κs = search needs
+put-name-requires : tie.Need-put-name-requires Inv-loop μ-loop
+put-name-requires c κs = search needs
 
 loop-holds : tie.Need-loop-holds Inv-loop μ-loop
 loop-holds c = search needs
 
-shared-slice-read-shown : tie.Need-shared-slice-read-shown Inv-loop μ-loop
-shared-slice-read-shown c = search needs
+shared-slice-read-put-one : tie.Need-shared-slice-read-put-one Inv-loop μ-loop
+shared-slice-read-put-one c = search needs
 
-shown-requires : tie.Need-shown-requires Inv-loop μ-loop
-shown-requires c κs = search needs
-
-put-byte-requires : tie.Need-put-byte-requires Inv-loop μ-loop
-put-byte-requires c κs = search needs
+put-one-requires : tie.Need-put-one-requires Inv-loop μ-loop
+put-one-requires c κs = search needs
 
 add-i : tie.Need-add-i Inv-loop μ-loop
 add-i c = search needs
@@ -45,8 +39,8 @@ loop-less c = search needs
 loop-again : tie.Need-loop-again Inv-loop μ-loop
 loop-again c = search needs
 
-put-byte-requires-2 : tie.Need-put-byte-requires-2 Inv-loop μ-loop
-put-byte-requires-2 c κs = search needs
+put-byte-requires : tie.Need-put-byte-requires Inv-loop μ-loop
+put-byte-requires c κs = search needs
 
 same-length : tie.Need-same-length Inv-loop μ-loop
 same-length c = search needs
@@ -62,15 +56,13 @@ put-bytes-spec =
     μ-loop
     at-most-requires
     at-most-requires-2
-    slice-aggregate-put
-    put-requires
+    put-name-requires
     loop-holds
-    shared-slice-read-shown
-    shown-requires
-    put-byte-requires
+    shared-slice-read-put-one
+    put-one-requires
     add-i
     loop-less
     loop-again
-    put-byte-requires-2
+    put-byte-requires
     same-length
     returns)
