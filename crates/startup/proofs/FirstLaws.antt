@@ -1,6 +1,6 @@
 -- The first destinations of a set-up, as the code goes about them.
 use Prim.Native.Nat.{ℕ, _+_, _≤_, _<_}
-use mathlib.Core.Path.{_≡_, sym}
+use mathlib.Core.Path.{_≡_, refl, sym}
 use mathlib.Core.List.{List, _++_}
 use native.Mathlib.Numerals.{add-one}
 use native.Mathlib.Omega.{arith}
@@ -10,12 +10,34 @@ use Rattle.laws.specs.Choice.{if_then_else_}
 use Rattle.laws.specs.Range.{tableTo}
 use Rattle.laws.proofs.Fill.{table-drop, table-rest}
 use Rattle.laws.proofs.Columns.{getD-repeated}
+use Rattle.rules.specs.declared.Busy.{Busy}
+use Rattle.rules.specs.declared.Entries.{Entries}
+use Rattle.rules.specs.declared.JobList.{JobList}
+use Rattle.rules.specs.declared.Jobs.{Jobs}
 use Rattle.rules.specs.declared.Setup.{Setup}
 use Rattle.rules.specs.declared.Sums.{Sums}
 use Rattle.rules.specs.declared.Health.the-variants.{Live}
 use Rattle.rules.specs.declared.Destination.{Destination}
-use Rattle.rules.specs.State.{at, zeroSettings, zeroDestination}
-use Rattle.rules.specs.Setup.{firstState, firstDestination}
+use Rattle.rules.specs.State.{at, zeroSettings, zeroDestination, zeroList}
+use Rattle.rules.specs.Setup.{firstState, noBusy, noJobs, noEntries, emptyState, firstDestination}
+
+-- nothing in any column, and nothing has happened
+pub nothing-yet : (u : Setup) (ds : List Destination) {busy : Busy} {q arrivals : JobList} {jobs : Jobs} {entries : Entries}
+    → busy ≡ noBusy → q ≡ zeroList → arrivals ≡ zeroList → jobs ≡ noJobs → entries ≡ noEntries
+    → record {
+      setup = u;
+      clock = 0;
+      ticket = 0;
+      turn = 0;
+      destinations = ds;
+      busy = busy;
+      queues = replicate 4 q;
+      arrivals = arrivals;
+      jobs = jobs;
+      entries = entries;
+    } ≡ emptyState u ds
+unfolding emptyState
+nothing-yet u ds b q a j e = rw (b, q, a, j, e) refl
 
 module _ (u : Setup) where
   -- the destinations with those below d in their first state, the others zeros

@@ -35,7 +35,7 @@ pub success-live : (g : Settings) (busy : ℕ) (h : Health) (u r : Sums) → h �
 unfolding afterSuccess
 success-live g busy h u r e k = rw (e, k)
 
-pub success-dead : (g : Settings) (busy : ℕ) (h : Health) (end : ℕ) (r : Sums) → h ≡ Dead end → r ≡ firstState g → Live r ≡ afterSuccess g busy h
+pub success-dead : (g : Settings) (busy : ℕ) (h : Health) (end : ℕ) (r : Health) → h ≡ Dead end → r ≡ Live (firstState g) → r ≡ afterSuccess g busy h
 unfolding afterSuccess
 success-dead g busy h end r e k = rw (e, k)
 

@@ -6,6 +6,7 @@ use rules::Sums;
 ghost use mathlib.Core.Path.{_≡_};
 ghost use mathlib.Core.Bool.{true};
 ghost use Prim.Native.Nat.{_≤_, _<_, min, max};
+ghost use Rattle.rules.specs.declared.Health.the-variants.{Live};
 ghost use Rattle.rules.specs.Sizes.{U};
 ghost use Rattle.rules.specs.Setup.{feedbackInRange, settingsInRange, firstState};
 ghost use Rattle.rules.specs.Windows.{feedback, cohortShare, raised, liveAfterSuccess, afterSuccess};
@@ -99,6 +100,13 @@ fn live_after_success(g: Settings, busy: u64, u: Sums) -> Sums
     }
 }
 
+// A dead destination after a late success: its first state. It has no window that a success could be divided by.
+fn revived(g: Settings) -> Health
+    ensures { λ r. ⌜ r ≡ Live (firstState g) ⌝ }
+{
+    Health::Live(first_state(g))
+}
+
 // A destination after a success; busy still counts this delivery. Soundness gives that the settings are in range, that the
 // destination fits them, and that no more than 512 entries are busy.
 pub fn after_success(g: Settings, busy: u64, h: Health) -> Health
@@ -107,7 +115,7 @@ pub fn after_success(g: Settings, busy: u64, h: Health) -> Health
 {
     match h {
         Health::Live(u) => Health::Live(live_after_success(g, busy, u)),
-        Health::Dead(_) => Health::Live(first_state(g)),
+        Health::Dead(_) => revived(g),
     }
 }
 

@@ -1,5 +1,5 @@
 -- The rule, test by test. Assumes nothing.
-use Rattle.rules.specs.Setup.{slotsInRange}
+use Rattle.ranges.proofs.SetupLaws.{slots-joined}
 use borrow.Author.Needs.{needs}
 use Rattle.ranges.proofs.slots_in_range.Statement.{statement}
 use Rattle.ranges.proofs.slots_in_range.Tie as tie
@@ -20,8 +20,9 @@ within-requires-5 : tie.Need-within-requires-5
 within-requires-5 c κs = search needs
 
 returns : tie.Need-returns
-unfolding slotsInRange
-returns c = cc
+returns c =
+    slots-joined (c .before .before .before .before .before .before .args .g) (c .before .before .before .before .before .within .ensures) (c .before .before .before .within2 .ensures) (c .before .before .within3 .ensures)
+    (c .before .within4 .ensures) (c .within5 .ensures)
 
 pub slots-in-range-spec : {M : Type 1} → statement M
 slots-in-range-spec =

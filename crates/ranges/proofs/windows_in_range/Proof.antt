@@ -1,5 +1,5 @@
 -- The rule, test by test. Assumes nothing.
-use Rattle.rules.specs.Setup.{windowsInRange}
+use Rattle.ranges.proofs.SetupLaws.{windows-joined}
 use borrow.Author.Needs.{needs}
 use Rattle.ranges.proofs.windows_in_range.Statement.{statement}
 use Rattle.ranges.proofs.windows_in_range.Tie as tie
@@ -23,8 +23,9 @@ within-requires-4 : tie.Need-within-requires-4
 within-requires-4 c κs = search needs
 
 returns : tie.Need-returns
-unfolding windowsInRange
-returns c = cc
+returns c =
+    windows-joined (c .before .before .before .before .before .before .before .before .args .g) (c .before .before .before .before .before .within .ensures) (c .before .before .before .before .within2 .ensures)
+    (c .before .before .before .feedback-in-range .ensures) (c .before .before .feedback-in-range2 .ensures) (c .before .within3 .ensures) (c .within4 .ensures)
 
 pub windows-in-range-spec : {M : Type 1} → statement M
 windows-in-range-spec =

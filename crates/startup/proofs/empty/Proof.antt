@@ -1,5 +1,5 @@
 -- Each column as its function says. Assumes nothing.
-use Rattle.rules.specs.Setup.{emptyState}
+use Rattle.startup.proofs.FirstLaws.{nothing-yet}
 use borrow.Author.Needs.{needs}
 use Rattle.startup.proofs.empty.Statement.{statement}
 use Rattle.startup.proofs.empty.Tie as tie
@@ -20,8 +20,9 @@ no-entries-requires : tie.Need-no-entries-requires
 no-entries-requires c κs = search needs
 
 returns : tie.Need-returns
-unfolding emptyState
-returns c = cc
+returns c =
+    nothing-yet (c .before .before .before .before .before .args .u) (c .before .before .before .before .before .args .ds) (c .before .before .before .no-busy .ensures) (c .before .before .before .before .no-list .ensures)
+    (c .before .before .no-list2 .ensures) (c .before .no-jobs .ensures) (c .no-entries .ensures)
 
 pub empty-spec : {M : Type 1} → statement M
 empty-spec =

@@ -14,14 +14,14 @@ live-after-success-requires c κs = (c .before .before .before .pre .0, live-fit
 enum-told : tie.Need-enum-told
 enum-told c = search needs
 
-first-state-requires : tie.Need-first-state-requires
-first-state-requires c κs = search needs
+revived-requires : tie.Need-revived-requires
+revived-requires c κs = search needs
 
 returns : tie.Need-returns
 returns c = success-live _ _ _ _ _ (c .before .before .h .given .1) (c .live-after-success .ensures)
 
 returns-2 : tie.Need-returns-2
-returns-2 c = success-dead _ _ _ _ _ (c .before .enum-told .given .1) (c .first-state .ensures)
+returns-2 c = success-dead _ _ _ _ _ (c .before .enum-told .given .1) (c .revived .ensures)
 
 pub after-success-spec : {M : Type 1} → statement M
 after-success-spec =
@@ -30,6 +30,6 @@ after-success-spec =
     enum-known-h
     live-after-success-requires
     enum-told
-    first-state-requires
+    revived-requires
     returns
     returns-2)
