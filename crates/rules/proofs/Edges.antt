@@ -3,21 +3,21 @@ use Prim.Native.Nat.{ℕ}
 use mathlib.Core.Path.{_≡_, refl}
 use mathlib.Core.Bool.{true, false}
 use mathlib.Core.List.{List, _∷_}
+use lib.ListN.{take}
 use lib.IntN.{pos}
-use Rattle.laws.specs.Choice.{if_then_else_}
 use Rattle.rules.specs.declared.Jobs.{Jobs}
 use Rattle.rules.specs.declared.State.{State}
 use Rattle.rules.specs.State.{at, waitingOf}
-use Rattle.rules.specs.Windows.{feedback, cohortShare, isDeadAt, raised, liveAfterSuccess, afterSuccess, lowered, liveAfterFailure, afterFailure}
 use Rattle.rules.specs.Preemption.{hasCredit, beats, paysFor, longEnough}
 use Rattle.rules.specs.Pick.{pickedJobs}
-use Rattle.rules.specs.Examples.{shownHealth, windowOrDead, windowsFailing, perWindow, usual, W1, W2, W3, W4, W5, W6, W7}
+use Rattle.rules.specs.Examples.{perWindow, usual, given, expected}
+use Rattle.rules.proofs.Opened.{ranges, windows, shows}
 
 -- Windows: the first seven rows of the table of marked examples.
 
-pub window-rows : W1 × W2 × W3 × W4 × W5 × W6 × W7
-unfolding feedback cohortShare isDeadAt raised liveAfterSuccess afterSuccess lowered liveAfterFailure afterFailure shownHealth windowOrDead windowsFailing if_then_else_
-window-rows = (refl, refl, refl, refl, refl, refl, refl)
+pub window-rows : take 7 given ≡ take 7 expected
+unfolding ranges windows shows
+window-rows = refl
 
 -- "a ≥ 1"
 pub credit-edge : (hasCredit (pos 0) ≡ false) × (hasCredit (pos 1) ≡ true)

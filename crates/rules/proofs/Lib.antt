@@ -17,6 +17,7 @@ pub mod RangeFacts
 pub mod JobFacts
 pub mod Soundness
 pub mod Turns
+pub mod Opened
 pub mod Edges
 pub mod Sim
 pub mod SimFresh
