@@ -10,7 +10,7 @@ use Rattle.rules.specs.declared.State.{State}
 use Rattle.rules.specs.State.{at, waitingOf}
 use Rattle.rules.specs.Preemption.{hasCredit, beats, paysFor, longEnough}
 use Rattle.rules.specs.Pick.{pickedJobs}
-use Rattle.rules.specs.Examples.{perWindow, usual, given, expected}
+use Rattle.rules.specs.Examples.{perWindow, usual, given, expected, Exact}
 use Rattle.rules.proofs.Opened.{ranges, windows, shows}
 
 -- Windows: the first seven rows of the table of marked examples.
@@ -18,6 +18,11 @@ use Rattle.rules.proofs.Opened.{ranges, windows, shows}
 pub window-rows : take 7 given ≡ take 7 expected
 unfolding ranges windows shows
 window-rows = refl
+
+-- "exact up to window 20"
+pub exact : Exact
+unfolding ranges windows shows
+exact = refl
 
 -- "a ≥ 1"
 pub credit-edge : (hasCredit (pos 0) ≡ false) × (hasCredit (pos 1) ≡ true)

@@ -20,7 +20,7 @@ use Rattle.rules.specs.Calls.{unlessRefused, setupReply, takingReply, jo
 use Rattle.rules.specs.Calls.{decidedUnless, takingDecision, jobDecision, pickingDecision, pickDecision, reportDecision, decisionOn}
 use Rattle.rules.specs.Tally.{noTally, rowOf, countsOn, newRow, withJob, overtakenBy, naming, noting, overtaken, withPreemption, preemptedRows, withPickAt, withPick, tallied}
 use Rattle.rules.specs.Run.{stateFrom, decisionsFrom, talliedAll, tallyOf}
-use Rattle.rules.specs.Examples.{shown, windowShown, windowsFailing, succeeded, served}
+use Rattle.rules.specs.Examples.{shown, windowShown, windowsFailing, succeeded, served, exactAt}
 
 unfoldable pub ranges : Unit {0}
 unfolding if_then_else_ one allTo anyTo countTo firstTo chosenTo tableTo foldTo sumTo lastTo
@@ -83,7 +83,7 @@ unfolding stateFrom decisionsFrom talliedAll tallyOf
 runs = tt
 
 unfoldable pub shows : Unit {0}
-unfolding shown windowShown windowsFailing succeeded served
+unfolding shown windowShown windowsFailing succeeded served exactAt
 shows = tt
 
 unfoldable pub rules : Unit {0}

@@ -1,8 +1,11 @@
--- Document 01, "Marked examples": W1 to W12 as one table with a single statement, `Worked`.
+-- Document 01, "Marked examples": W1 to W12 as one table with a single statement, `Worked`. Beside it the windows for which feedback is exact.
 use Prim.Native.Nat.{ℕ, zero, suc, _*_, _/_}
 use mathlib.Core.Path.{_≡_}
+use mathlib.Core.Bool.{Bool, true, _&&_}
 use mathlib.Core.List.{List, [], _∷_, _++_}
 use lib.ListN.{replicate}
+use lib.Dec.{eqb}
+use Rattle.laws.specs.Range.{allTo}
 use Rattle.rules.specs.declared.Feedback.{Feedback}
 use Rattle.rules.specs.declared.Settings.{Settings}
 use Rattle.rules.specs.declared.Setup.{Setup}
@@ -13,7 +16,7 @@ use Rattle.rules.specs.declared.Outcome.the-variants.{Success}
 use Rattle.rules.specs.Sizes.{U, maxDestinations, maxEntries}
 use Rattle.rules.specs.State.{at, destinationOf, zeroSettings}
 use Rattle.rules.specs.Setup.{firstState}
-use Rattle.rules.specs.Windows.{afterSuccess, afterFailure}
+use Rattle.rules.specs.Windows.{feedback, cohortShare, afterSuccess, afterFailure}
 use Rattle.rules.specs.Calls.{Reply, Call, job, pickReply, reportReply, setupReply}
 use Rattle.rules.specs.Run.{stateFrom}
 
@@ -225,3 +228,13 @@ expected =
 
 abbrev pub Worked : Type 0
 Worked = given ≡ expected
+
+-- "exact up to window 20": nothing is lost where p percent of U is divided by 100, by 100·window, or U by window
+
+unfoldable pub exactAt : ℕ → ℕ → Bool
+exactAt p w =
+    eqb (feedback (flat p) w * 100) (p * U) && eqb (feedback (perWindow p) w * (100 * w)) (p * U) && eqb (cohortShare w * w) U
+
+-- every percent from 0 to 100 and every window from 1 to 20
+abbrev pub Exact : Type 0
+Exact = allTo (λ p. allTo (λ k. exactAt p (suc k)) 20) 101 ≡ true
