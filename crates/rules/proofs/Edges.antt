@@ -2,16 +2,22 @@
 use Prim.Native.Nat.{ℕ}
 use mathlib.Core.Path.{_≡_, refl}
 use mathlib.Core.Bool.{true, false}
-use mathlib.Core.List.{List, _∷_}
+use mathlib.Core.List.{List, [], _∷_}
 use lib.ListN.{take}
+use lib.Dec.{lit≤, le→leb}
 use lib.IntN.{pos}
+use native.Mathlib.Omega.{arith}
 use Rattle.rules.specs.declared.Jobs.{Jobs}
 use Rattle.rules.specs.declared.State.{State}
 use Rattle.rules.specs.State.{at, waitingOf}
 use Rattle.rules.specs.Preemption.{hasCredit, beats, paysFor, longEnough}
-use Rattle.rules.specs.Pick.{pickedJobs}
-use Rattle.rules.specs.Examples.{perWindow, usual, given, expected, Exact}
-use Rattle.rules.proofs.Opened.{ranges, windows, shows}
+use Rattle.rules.specs.Pick.{pickedJobs, nobody, preemption}
+use Rattle.rules.specs.Calls.{took, picked}
+use Rattle.rules.specs.Tally.{noTally}
+use Rattle.rules.specs.Run.{talliedAll}
+use Rattle.rules.specs.Demand3.{Ceilings}
+use Rattle.rules.specs.Examples.{perWindow, usual, given, expected, row, Exact}
+use Rattle.rules.proofs.Opened.{ranges, sequences, windows, tallies, runs, shows}
 
 -- Windows: the first seven rows of the table of marked examples.
 
@@ -48,3 +54,61 @@ tie-edge s b c m n = rw (b, c, m, n) (refl, refl)
 -- "destinations .. take turns after the last one picked": from place 2 of job 0's order, the next turn is from place 3 on
 pub turn-edge : (g : Jobs) (x : ℕ) (rest : List ℕ) → g .turn ≡ x ∷ rest → at (pickedJobs g 0 2 .turn) 0 ≡ 3
 turn-edge g x rest e = rw e refl
+
+-- The tally, fed with decisions: job 1 preempts job 0 with 4 waiting, then job 3 preempts job 1 with 2, which count for job 0 too. Job 2 is on
+-- transport 1. The third pick of transport 0 passes one job over, the fourth two.
+pub tally-rows :
+    talliedAll noTally
+    (took 0 0 20
+    ∷ took 1 0 4
+    ∷ took 2 1 3
+    ∷ took 3 0 2
+    ∷ picked 0 0 nobody
+    ∷ picked 1 0 (preemption 1 0 4)
+    ∷ picked 2 0 nobody
+    ∷ picked 3 1 (preemption 3 1 2)
+    ∷ picked 0 2 nobody
+    ∷ [])
+    .rows
+    ≡ row 0 0 20 20 6 0 4 3
+    ∷ row 1 0 4 24 2 1 2 0
+    ∷ row 2 1 3 3 0 0 1 0
+    ∷ row 3 0 2 26 0 2 3 1
+    ∷ []
+unfolding ranges sequences tallies runs
+tally-rows = refl
+
+-- The ceilings are reached and not passed. With n 8 and N 20 they are 8/4 and 20 + 20/4 for c = 5, and 0 and 20 for c = 0; where somebody was
+-- passed over, the last pick has none.
+pub ceilings-edge :
+    Ceilings 5 (row 0 0 8 20 2 0 25 0)
+    × (Ceilings 5 (row 0 0 8 20 3 0 25 0) → ⊥)
+    × (Ceilings 5 (row 0 0 8 20 2 0 26 0) → ⊥)
+    × Ceilings 5 (row 0 0 8 20 2 0 26 1)
+    × Ceilings 0 (row 0 0 8 20 0 0 20 0)
+    × (Ceilings 0 (row 0 0 8 20 1 0 20 0) → ⊥)
+    × (Ceilings 0 (row 0 0 8 20 0 0 21 0) → ⊥)
+ceilings-edge = (
+  record {
+    overtakers = λ _. lit≤ tt;
+    nobody = λ e. omega (arith, e);
+    lastpick = λ _ _. lit≤ tt;
+    lastpickoff = λ _ e. omega (arith, e);
+  },
+  (λ h. le→leb 3 2 (h .overtakers (lit≤ tt))),
+  (λ h. le→leb 26 25 (h .lastpick refl (lit≤ tt))),
+  record {
+    overtakers = λ _. lit≤ tt;
+    nobody = λ e. omega (arith, e);
+    lastpick = λ e _. omega (arith, e);
+    lastpickoff = λ e _. omega (arith, e);
+  },
+  record {
+    overtakers = λ h. omega (arith, h);
+    nobody = λ _. refl;
+    lastpick = λ _ h. omega (arith, h);
+    lastpickoff = λ _ _. lit≤ tt;
+  },
+  (λ h. omega (arith, h .nobody refl)),
+  (λ h. le→leb 21 20 (h .lastpickoff refl refl)),
+)
