@@ -2,7 +2,8 @@
 use mathlib.Core.Path.{_≡_, refl}
 use mathlib.Core.Bool.{true}
 use Rattle.rules.specs.Setup.{setupInRange}
-use Rattle.rules.specs.Examples.{oneTransport, W8Tallied, twoTransports, PassedOverTallied}
+use Rattle.rules.specs.Examples.{oneTransport}
+use Rattle.rules.specs.Tallies.{W8Tallied, twoTransports, PassedOverTallied}
 use Rattle.rules.proofs.Opened.{rules}
 
 pub accepted : (setupInRange (oneTransport 1) ≡ true) × (setupInRange twoTransports ≡ true)

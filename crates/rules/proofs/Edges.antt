@@ -16,7 +16,8 @@ use Rattle.rules.specs.Calls.{took, picked}
 use Rattle.rules.specs.Tally.{noTally}
 use Rattle.rules.specs.Run.{talliedAll}
 use Rattle.rules.specs.Demand3.{Ceilings}
-use Rattle.rules.specs.Examples.{perWindow, usual, given, expected, row, Exact}
+use Rattle.rules.specs.Examples.{perWindow, usual, given, expected, Exact}
+use Rattle.rules.specs.Tallies.{row}
 use Rattle.rules.proofs.Opened.{ranges, sequences, windows, tallies, runs, shows}
 
 -- Windows: the first seven rows of the table of marked examples.

@@ -20,3 +20,4 @@ pub mod Run
 pub mod Ledger
 pub mod Demand3
 pub mod Examples
+pub mod Tallies
