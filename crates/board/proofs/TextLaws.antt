@@ -11,19 +11,14 @@ use Rattle.rules.specs.declared.Sums.{Sums}
 use Rattle.rules.specs.declared.Health.{Health}
 use Rattle.rules.specs.declared.Health.the-variants.{Live, Dead}
 use Rattle.rules.specs.declared.Destination.{Destination}
-use Rattle.rules.specs.declared.State.{State}
 use Rattle.rules.specs.State.{at, zeroDestination}
-use Rattle.rules.specs.Board.{decimal, healthText, clockLine, destinationLine, boardText}
+use Rattle.rules.specs.Board.{decimal, healthText, clockLine, destinationLine}
 use Rattle.writing.proofs.Decimals.{decimal-length}
 use Rattle.board.specs.Text.{liveText, deadText}
 use Rattle.rules.specs.Board.{linesOf, textOf}
 use Rattle.laws.specs.Wrote.{Wrote}
 use Rattle.laws.proofs.Writing.{wrote-as, wrote-again, wrote-since, wrote-length, behind, start-fits, rest-fits}
 use borrow.Rule.Slice.PartMut.{midOf, putMid}
-
-pub text-is : (s : State) → textOf (s .clock) (s .setup .destinations) (s .destinations) (s .busy .destination) ≡ boardText s
-unfolding textOf boardText
-text-is s = refl
 
 -- Lengths, as the code adds them up, and their bounds.
 
@@ -152,11 +147,3 @@ live-text h u busy e = rw e
 pub dead-text : (h : Health) (end busy : ℕ) → h ≡ Dead end → healthText h busy ≡ deadText end
 unfolding healthText
 dead-text h end busy e = rw e
-
--- Of a state: what the code's contracts come to.
-
-pub board-length : (s : State) {r : ℕ} → r ≡ length (textOf (s .clock) (s .setup .destinations) (s .destinations) (s .busy .destination)) → r ≡ length (boardText s)
-board-length s e = e ∙ ap length (text-is s)
-
-pub board-wrote : (s : State) {e x : List ℕ} {r : ℕ} → Wrote (textOf (s .clock) (s .setup .destinations) (s .destinations) (s .busy .destination)) e x r → Wrote (boardText s) e x r
-board-wrote s w = wrote-as (text-is s) w

@@ -79,8 +79,7 @@ fn line_length(d: u64, h: Health, busy: u16) -> usize
     2 + decimal_length(d) + 1 + health_length(h, busy) + 1
 }
 
-// How long the text is. Of a state's own parts it is `boardText s` (`text-is` of proofs/); that there are at most 32
-// destinations, soundness says.
+// How long the text is: of a state's own parts, that is `boardText s`. That there are at most 32 destinations, soundness says.
 pub fn text_length(clock: u32, count: u64, ds: [Destination; 32], busy: [u16; 32]) -> usize
     requires { ⌜ count ≤ 32 ⌝ }
     ensures { λ r. ⌜ r ≡ length (textOf clock count ds busy) ⌝ }
