@@ -18,7 +18,7 @@
 //     range FIELD ..                          changes a field of the set-up, and sets up with it; the state stays
 //
 // Empty lines and lines that begin with '#' are written as they are.
-ghost use Prim.Native.Nat.{_≤_};
+ghost use Prim.Native.Nat.{_*_, _≤_};
 ghost use lib.ListN.{length};
 use calling::Reply;
 use cases::bits;
@@ -42,7 +42,8 @@ struct Desk {
 fn main() {
     let mut cases_space = [0u8; 65536];
     let cases: &mut [u8] = &mut cases_space;
-    let mut words_space = [0u64; 512];
+    // the most numbers that a line of so many bytes holds
+    let mut words_space = [0u64; 32768];
     let words: &mut [u64] = &mut words_space;
     // longer than a report needs
     let mut list_space = [0u16; 600];
@@ -54,7 +55,9 @@ fn main() {
     run(cases, words, list, written, out);
 }
 
-fn run(cases: &mut [u8], words: &mut [u64], list: &mut [u16], written: &mut [u8], out: &mut [u8]) {
+fn run(cases: &mut [u8], words: &mut [u64], list: &mut [u16], written: &mut [u8], out: &mut [u8])
+    requires { ⌜ length (now cases) ≤ 2 * length (now words) ⌝ }
+{
     let n = io::read_full(STDIN_FILENO, cases);
     let zeros = calling::no_state();
     let mut desk = Desk {
@@ -78,7 +81,9 @@ fn step(
     written: &mut [u8],
     out: &mut [u8],
     desk: Desk,
-) -> Desk {
+) -> Desk
+    requires { ⌜ length (now line) ≤ 2 * length (now words) ⌝ }
+{
     io::write_all(STDOUT_FILENO, line);
     let s = desk.state;
     let kept = desk.kept;
@@ -122,7 +127,9 @@ fn times(
     written: &mut [u8],
     out: &mut [u8],
     s: State,
-) -> Reply {
+) -> Reply
+    requires { ⌜ length (now line) ≤ 2 * length (now words) ⌝ }
+{
     let mut r = calling::left(s, 0);
     let mut left = count;
     while 0 < left {
@@ -139,7 +146,9 @@ fn once(
     written: &mut [u8],
     out: &mut [u8],
     s: State,
-) -> Reply {
+) -> Reply
+    requires { ⌜ length (now line) ≤ 2 * length (now words) ⌝ }
+{
     let n = line.len();
     let end = text::find(line, 0, n, 32);
     let kind = reading::kind_of(&line[..end]);
@@ -203,7 +212,9 @@ fn calling(
 }
 
 // What stands behind the name: a field and its numbers.
-fn changing(kind: u8, rest: &[u8], words: &mut [u64], out: &mut [u8], s: State) -> Reply {
+fn changing(kind: u8, rest: &[u8], words: &mut [u64], out: &mut [u8], s: State) -> Reply
+    requires { ⌜ length (now rest) ≤ 2 * length (now words) ⌝ }
+{
     let n = rest.len();
     let from = text::skip_blanks(rest, 0);
     let to = text::find(rest, from, n, 32);

@@ -5,6 +5,12 @@ use lines::text;
 use rules::Outcome;
 use rules::Setup;
 use rules::State;
+ghost use Prim.Native.Nat.{_*_, _≤_};
+ghost use mathlib.Core.Path.{_≡_};
+ghost use lib.ListN.{length};
+ghost use Rattle.rules.specs.Setup.{zeroState};
+ghost use Rattle.rules.specs.Calls.{setupReply};
+ghost use Rattle.calling.specs.Meaning.{setupLine, jobLine, pickLine, reportLine, outcomeOf, askLine, boardLine, kindOf, callLine, meaningOf, stateOn};
 
 // The state that a call left, and how many bytes of answer it put into the lent buffer.
 pub struct Reply {
@@ -13,13 +19,16 @@ pub struct Reply {
 }
 
 // The state of all zeros: a refused set-up gives it.
-pub fn no_state() -> State {
+pub fn no_state() -> State
+    ensures { λ r. ⌜ r ≡ zeroState ⌝ }
+{
     let u = setups::no_setup();
     scheduler::set_up(u).state
 }
 
 // Makes the call of a line. Its numbers go to `words`, its answer to `out`; `list` and `written` are what it may lend.
-// An empty line and one that begins with '#' are no call, and have no answer.
+// An empty line and one that begins with '#' are no call, and have no answer. A number and the blank before it are two
+// bytes or more, so half as many places as bytes are enough.
 pub fn answer_line(
     line: &[u8],
     words: &mut [u64],
@@ -27,7 +36,10 @@ pub fn answer_line(
     written: &mut [u8],
     out: &mut [u8],
     s: State,
-) -> Reply {
+) -> Reply
+    requires { ⌜ length (now line) ≤ 2 * length (now words) ⌝ }
+    ensures { λ r. ⌜ r .state ≡ stateOn s (meaningOf (now (line .entry)) (now (list .entry)) (now (written .entry))) ⌝ }
+{
     let at = text::skip_blanks(line, 0);
     let n = line.len();
     if n <= at {
@@ -46,14 +58,18 @@ pub fn answer_line(
 }
 
 // A state with so many bytes of answer.
-pub fn left(s: State, n: usize) -> Reply {
+pub fn left(s: State, n: usize) -> Reply
+    ensures { λ r. ⌜ (r .state ≡ s) × (r .length ≡ n) ⌝ }
+{
     Reply {
         state: s,
         length: n,
     }
 }
 
-fn malformed(out: &mut [u8], s: State) -> Reply {
+fn malformed(out: &mut [u8], s: State) -> Reply
+    ensures { λ r. ⌜ r .state ≡ s ⌝ }
+{
     let n = answer::malformed(out);
     left(s, n)
 }
@@ -66,7 +82,9 @@ pub fn call(
     written: &mut [u8],
     out: &mut [u8],
     s: State,
-) -> Reply {
+) -> Reply
+    ensures { λ r. ⌜ r .state ≡ stateOn s (callLine (now (name .entry)) (now (words .entry)) (now (list .entry)) (now (written .entry))) ⌝ }
+{
     let kind = kind_of(name);
     if kind == 1 {
         return set_up(words, out, s);
@@ -90,7 +108,9 @@ pub fn call(
 }
 
 // 1 to 6 for the six calls, 0 for another name.
-fn kind_of(name: &[u8]) -> u8 {
+fn kind_of(name: &[u8]) -> u8
+    ensures { λ r. ⌜ r ≡ kindOf (now (name .entry)) ⌝ }
+{
     if text::same(name, b"setup") {
         return 1;
     }
@@ -112,7 +132,9 @@ fn kind_of(name: &[u8]) -> u8 {
     0
 }
 
-fn set_up(words: &[u64], out: &mut [u8], s: State) -> Reply {
+fn set_up(words: &[u64], out: &mut [u8], s: State) -> Reply
+    ensures { λ r. ⌜ r .state ≡ stateOn s (setupLine (now (words .entry))) ⌝ }
+{
     let at = setups::count_place(words);
     if at == 0 {
         return malformed(out, s);
@@ -122,14 +144,18 @@ fn set_up(words: &[u64], out: &mut [u8], s: State) -> Reply {
 }
 
 // The set-up itself.
-pub fn start(u: Setup, out: &mut [u8]) -> Reply {
+pub fn start(u: Setup, out: &mut [u8]) -> Reply
+    ensures { λ r. ⌜ r .state ≡ setupReply u .state ⌝ }
+{
     let r = scheduler::set_up(u);
     let a = r.answer;
     let n = answer::setup(out, a);
     left(r.state, n)
 }
 
-fn take_job(words: &[u64], list: &mut [u16], out: &mut [u8], s: State) -> Reply {
+fn take_job(words: &[u64], list: &mut [u16], out: &mut [u8], s: State) -> Reply
+    ensures { λ r. ⌜ r .state ≡ stateOn s (jobLine (now (words .entry)) (now (list .entry))) ⌝ }
+{
     let k = words.len();
     if k < 4 {
         return malformed(out, s);
@@ -144,7 +170,9 @@ fn take_job(words: &[u64], list: &mut [u16], out: &mut [u8], s: State) -> Reply 
     left(r.state, n)
 }
 
-fn pick(words: &[u64], out: &mut [u8], s: State) -> Reply {
+fn pick(words: &[u64], out: &mut [u8], s: State) -> Reply
+    ensures { λ r. ⌜ r .state ≡ stateOn s (pickLine (now (words .entry))) ⌝ }
+{
     if words.len() != 1 {
         return malformed(out, s);
     }
@@ -154,17 +182,16 @@ fn pick(words: &[u64], out: &mut [u8], s: State) -> Reply {
     left(r.state, n)
 }
 
-fn report(words: &[u64], list: &mut [u16], out: &mut [u8], s: State) -> Reply {
+fn report(words: &[u64], list: &mut [u16], out: &mut [u8], s: State) -> Reply
+    ensures { λ r. ⌜ r .state ≡ stateOn s (reportLine (now (words .entry)) (now (list .entry))) ⌝ }
+{
     if words.len() != 5 {
         return malformed(out, s);
     }
     if 1 < words[3] {
         return malformed(out, s);
     }
-    let mut outcome = Outcome::Success;
-    if words[3] == 1 {
-        outcome = Outcome::Failure;
-    }
+    let outcome = outcome_of(words[3]);
     let places = text::at_most(words[4], list.len());
     let r = scheduler::report(
         s,
@@ -179,7 +206,18 @@ fn report(words: &[u64], list: &mut [u16], out: &mut [u8], s: State) -> Reply {
     left(r.state, n)
 }
 
-fn ask(words: &[u64], out: &mut [u8], s: State) -> Reply {
+fn outcome_of(x: u64) -> Outcome
+    ensures { λ r. ⌜ r ≡ outcomeOf x ⌝ }
+{
+    if x == 1 {
+        return Outcome::Failure;
+    }
+    Outcome::Success
+}
+
+fn ask(words: &[u64], out: &mut [u8], s: State) -> Reply
+    ensures { λ r. ⌜ r .state ≡ stateOn s (askLine (now (words .entry))) ⌝ }
+{
     if words.len() != 1 {
         return malformed(out, s);
     }
@@ -188,7 +226,9 @@ fn ask(words: &[u64], out: &mut [u8], s: State) -> Reply {
     left(s, n)
 }
 
-fn board(words: &[u64], written: &mut [u8], out: &mut [u8], s: State) -> Reply {
+fn board(words: &[u64], written: &mut [u8], out: &mut [u8], s: State) -> Reply
+    ensures { λ r. ⌜ r .state ≡ stateOn s (boardLine (now (words .entry)) (now (written .entry))) ⌝ }
+{
     if words.len() != 1 {
         return malformed(out, s);
     }

@@ -1,7 +1,8 @@
 // One call a line in, one answer a line out. Each answer is written before the next line is waited for.
 ghost use mathlib.Core.Path.{_≡_};
-ghost use Prim.Native.Nat.{_+_, _≤_, _<_};
+ghost use Prim.Native.Nat.{_+_, _*_, _≤_, _<_};
 ghost use lib.ListN.{length};
+ghost use Rattle.console.specs.Lines.{stateAfter};
 use libc::STDIN_FILENO;
 use lines::answer;
 use lines::text;
@@ -19,7 +20,7 @@ fn main() {
 // Answers line after line until the input ends. It turns at most 2^64 - 1 times, which no input uses up: a turn
 // takes a line or reads at least a byte.
 fn run(line: &mut [u8], words: &mut [u64])
-    requires { ⌜ 0 < length (now line) ⌝ }
+    requires { ⌜ (0 < length (now line)) × (length (now line) ≤ 2 * length (now words) + 1) ⌝ }
 {
     let mut state = calling::no_state();
     let mut h = none(0);
@@ -62,7 +63,10 @@ struct Held {
 }
 
 // Answers a line, or the end of one that was too long, and hands on the state that the call left.
-fn answered(line: &[u8], words: &mut [u64], mode: u8, s: State) -> State {
+fn answered(line: &[u8], words: &mut [u64], mode: u8, s: State) -> State
+    requires { ⌜ length (now line) ≤ 2 * length (now words) ⌝ }
+    ensures { λ r. ⌜ r ≡ stateAfter mode (now (line .entry)) s ⌝ }
+{
     let mut list_space = [0u16; 512];
     let list: &mut [u16] = &mut list_space;
     let mut text_space = [0u8; 4096];
@@ -82,7 +86,9 @@ fn answered(line: &[u8], words: &mut [u64], mode: u8, s: State) -> State {
 }
 
 // Answers what stands behind the last line end.
-fn answer_last(line: &[u8], words: &mut [u64], mode: u8, s: State) {
+fn answer_last(line: &[u8], words: &mut [u64], mode: u8, s: State)
+    requires { ⌜ length (now line) ≤ 2 * length (now words) ⌝ }
+{
     answered(line, words, mode, s);
 }
 

@@ -3,8 +3,17 @@ use crate::text::word;
 use rules::Feedback;
 use rules::Settings;
 use rules::Setup;
+ghost use Prim.Native.Nat.{_≤_};
+ghost use mathlib.Core.Path.{_≡_};
+ghost use lib.ListN.{length};
+ghost use Rattle.rules.specs.Setup.{zeroSetup};
+ghost use Rattle.rules.specs.State.{zeroSettings};
+ghost use Rattle.lines.specs.Setups.{countPlace, settingsIn, homesBehind, setupFrom};
 
-pub fn no_setup() -> Setup {
+// The set-up of all zeros.
+pub fn no_setup() -> Setup
+    ensures { λ r. ⌜ r ≡ zeroSetup ⌝ }
+{
     let g = no_settings();
     Setup {
         transports: 0,
@@ -14,7 +23,9 @@ pub fn no_setup() -> Setup {
     }
 }
 
-fn no_settings() -> Settings {
+fn no_settings() -> Settings
+    ensures { λ r. ⌜ r ≡ zeroSettings ⌝ }
+{
     let f = Feedback {
         percent: 0,
         form: 0,
@@ -35,24 +46,30 @@ fn no_settings() -> Settings {
 }
 
 // The place of a set-up's number of destinations; 0 where the numbers are not as many as it announces.
-pub fn count_place(words: &[u64]) -> u32 {
+pub fn count_place(words: &[u64]) -> usize
+    ensures { λ r. ⌜ (r ≡ countPlace (now (words .entry))) × (r ≤ length (now (words .entry))) ⌝ }
+{
     let k = words.len();
     let t = word(words, 0);
-    // a line has no room for more
-    if 2520 < t {
+    // 13 numbers each
+    if (k as u64) / 13 < t {
         return 0;
     }
-    let at = 1 + 13 * t;
-    if (k as u64) <= at {
+    let at = 1 + 13 * (t as usize);
+    if k <= at {
         return 0;
     }
-    if word(words, at as usize) != (k as u64) - at - 1 {
+    if word(words, at) != (k - at - 1) as u64 {
         return 0;
     }
-    at as u32
+    at
 }
 
-pub fn setup_of(words: &[u64], at: u32) -> Setup {
+// The set-up of these numbers, where that is the place of its number of destinations.
+pub fn setup_of(words: &[u64], at: usize) -> Setup
+    requires { ⌜ at ≤ length (now words) ⌝ }
+    ensures { λ r. ⌜ r ≡ setupFrom (now (words .entry)) at ⌝ }
+{
     let t = word(words, 0);
     let a = settings(words, t, 0);
     let b = settings(words, t, 1);
@@ -62,13 +79,15 @@ pub fn setup_of(words: &[u64], at: u32) -> Setup {
     Setup {
         transports: t,
         settings: [a, b, c, e],
-        destinations: word(words, at as usize),
+        destinations: word(words, at),
         home: home,
     }
 }
 
 // The settings of transport i, where there are t; zeros where i is none of them.
-fn settings(words: &[u64], t: u64, i: u32) -> Settings {
+fn settings(words: &[u64], t: u64, i: u32) -> Settings
+    ensures { λ r. ⌜ r ≡ settingsIn (now (words .entry)) t i ⌝ }
+{
     if t <= (i as u64) {
         return no_settings();
     }
@@ -97,11 +116,14 @@ fn settings(words: &[u64], t: u64, i: u32) -> Settings {
 }
 
 // The first 32 numbers behind a place.
-fn homes(words: &[u64], at: u32) -> [u64; 32] {
+fn homes(words: &[u64], at: usize) -> [u64; 32]
+    requires { ⌜ at ≤ length (now words) ⌝ }
+    ensures { λ r. ⌜ r ≡ homesBehind (now (words .entry)) at ⌝ }
+{
     let mut home = [0u64; 32];
     let mut j: usize = 0;
     while j < 32 {
-        home[j] = word(words, (at as usize) + 1 + j);
+        home[j] = word(words, at + 1 + j);
         j += 1;
     }
     home

@@ -1,11 +1,15 @@
 // Bytes of a line: finding one, and words read as numbers.
-ghost use Prim.Native.Nat.{_≤_};
-ghost use lib.ListN.{length};
+ghost use Prim.Native.Nat.{_+_, _*_, _-_, _≤_, min};
+ghost use mathlib.Core.Path.{_≡_};
+ghost use mathlib.Core.List.{_++_};
+ghost use lib.ListN.{length, getD, take, drop};
+ghost use Rattle.lines.specs.Words.{wordsOf, sameBytes, numberOf};
+ghost use Rattle.lines.specs.Words.{FirstFrom, isByte, notBlank, Read};
 
 // The first place from `from` on, before `to`, that holds the byte; `to` where there is none.
 pub fn find(s: &[u8], from: usize, to: usize, byte: u8) -> usize
     requires { ⌜ (from ≤ to) × (to ≤ length (now s)) ⌝ }
-    ensures { λ r. ⌜ (from ≤ r) × (r ≤ to) ⌝ }
+    ensures { λ r. ⌜ FirstFrom (isByte (now (s .entry)) byte) from to r ⌝ }
 {
     let mut i = from;
     while i < to {
@@ -20,7 +24,7 @@ pub fn find(s: &[u8], from: usize, to: usize, byte: u8) -> usize
 // The first place from `from` on that holds no blank; the length where there is none.
 pub fn skip_blanks(s: &[u8], from: usize) -> usize
     requires { ⌜ from ≤ length (now s) ⌝ }
-    ensures { λ r. ⌜ (from ≤ r) × (r ≤ length (now (s .entry))) ⌝ }
+    ensures { λ r. ⌜ FirstFrom (notBlank (now (s .entry))) from (length (now (s .entry))) r ⌝ }
 {
     let mut i = from;
     while i < s.len() {
@@ -33,7 +37,9 @@ pub fn skip_blanks(s: &[u8], from: usize) -> usize
 }
 
 // Whether the two are the same bytes.
-pub fn same(a: &[u8], b: &[u8]) -> bool {
+pub fn same(a: &[u8], b: &[u8]) -> bool
+    ensures { λ r. ⌜ r ≡ sameBytes (now (a .entry)) (now (b .entry)) ⌝ }
+{
     if a.len() != b.len() {
         return false;
     }
@@ -50,6 +56,7 @@ pub fn same(a: &[u8], b: &[u8]) -> bool {
 // Moves the bytes from `from` up to `to` to the front.
 pub fn shift(s: &mut [u8], from: usize, to: usize)
     requires { ⌜ (from ≤ to) × (to ≤ length (now s)) ⌝ }
+    ensures { λ r. ⌜ now (s .exit) ≡ take (to - from) (drop from (now (s .entry))) ++ drop (to - from) (now (s .entry)) ⌝ }
 {
     let mut i = from;
     while i < to {
@@ -61,7 +68,7 @@ pub fn shift(s: &mut [u8], from: usize, to: usize)
 
 // A number, or `most` where it is more.
 pub fn at_most(x: u64, most: usize) -> usize
-    ensures { λ r. ⌜ r ≤ most ⌝ }
+    ensures { λ r. ⌜ r ≡ min x most ⌝ }
 {
     if x < (most as u64) { x as usize } else { most }
 }
@@ -72,7 +79,9 @@ pub enum Number {
     No,
 }
 
-pub fn read_number(word: &[u8]) -> Number {
+pub fn read_number(word: &[u8]) -> Number
+    ensures { λ r. ⌜ r ≡ numberOf (now (word .entry)) ⌝ }
+{
     let mut x: u64 = 0;
     let mut i: usize = 0;
     while i < word.len() {
@@ -97,16 +106,16 @@ pub fn read_number(word: &[u8]) -> Number {
     Number::Is(x)
 }
 
-// Whether each word was a number and there was a place for it, and how many there were.
+// Whether each word was a number, and how many there were.
 pub struct Numbers {
     pub whole: bool,
     pub count: usize,
 }
 
-// The words from `from` on, as numbers at the start of `out`.
+// The words from `from` on, as numbers at the start of `out`. A word and the blank before it are two bytes or more.
 pub fn read_numbers(s: &[u8], from: usize, out: &mut [u64]) -> Numbers
-    requires { ⌜ from ≤ length (now s) ⌝ }
-    ensures { λ r. ⌜ r .count ≤ length (now (out .exit)) ⌝ }
+    requires { ⌜ (from ≤ length (now s)) × (length (now s) ≤ from + 2 * length (now out)) ⌝ }
+    ensures { λ r. ⌜ Read (wordsOf (drop from (now (s .entry)))) (r .whole) (r .count) (now (out .exit)) ⌝ }
 {
     let mut count: usize = 0;
     let mut at = skip_blanks(s, from);
@@ -118,12 +127,6 @@ pub fn read_numbers(s: &[u8], from: usize, out: &mut [u64]) -> Numbers
                 count: 0,
             };
         };
-        if out.len() <= count {
-            return Numbers {
-                whole: false,
-                count: 0,
-            };
-        }
         out[count] = x;
         count += 1;
         at = skip_blanks(s, end);
@@ -135,6 +138,8 @@ pub fn read_numbers(s: &[u8], from: usize, out: &mut [u64]) -> Numbers
 }
 
 // The number at a place; 0 past the end.
-pub fn word(words: &[u64], i: usize) -> u64 {
+pub fn word(words: &[u64], i: usize) -> u64
+    ensures { λ r. ⌜ r ≡ getD (now (words .entry)) i 0 ⌝ }
+{
     if i < words.len() { words[i] } else { 0 }
 }

@@ -6,7 +6,7 @@
 //                     each place holds 999 before, each byte a '.'
 //
 // Empty lines and lines that begin with '#' are passed over.
-ghost use Prim.Native.Nat.{_≤_};
+ghost use Prim.Native.Nat.{_+_, _*_, _≤_};
 ghost use lib.ListN.{length};
 use libc::STDIN_FILENO;
 use lines::answer;
@@ -24,7 +24,8 @@ struct Desk {
 fn main() {
     let mut input_space = [0u8; 16384];
     let input: &mut [u8] = &mut input_space;
-    let mut words_space = [0u64; 256];
+    // the most numbers that a line of so many bytes holds
+    let mut words_space = [0u64; 8192];
     let words: &mut [u64] = &mut words_space;
     let mut calls_space = [0u64; 1024];
     let list: &mut [u64] = &mut calls_space;
@@ -33,7 +34,9 @@ fn main() {
     read_lines(input, words, list, out);
 }
 
-fn read_lines(input: &mut [u8], words: &mut [u64], list: &mut [u64], out: &mut [u8]) {
+fn read_lines(input: &mut [u8], words: &mut [u64], list: &mut [u64], out: &mut [u8])
+    requires { ⌜ length (now input) ≤ 2 * length (now words) ⌝ }
+{
     let n = io::read_full(STDIN_FILENO, input);
     let mut desk = Desk {
         setup: setups::no_setup(),
@@ -49,7 +52,9 @@ fn read_lines(input: &mut [u8], words: &mut [u64], list: &mut [u64], out: &mut [
 }
 
 // Does what a line says.
-fn step(line: &[u8], words: &mut [u64], list: &mut [u64], out: &mut [u8], desk: Desk) -> Desk {
+fn step(line: &[u8], words: &mut [u64], list: &mut [u64], out: &mut [u8], desk: Desk) -> Desk
+    requires { ⌜ length (now line) ≤ 2 * length (now words) ⌝ }
+{
     let u = desk.setup;
     let n = line.len();
     let at = text::skip_blanks(line, 0);
@@ -92,7 +97,7 @@ fn read_setup(words: &[u64]) -> Setup {
 
 // The numbers from a place on, at the start of the lent words, and how many there are; none where one is no number.
 fn numbers(line: &[u8], from: usize, words: &mut [u64]) -> usize
-    requires { ⌜ from ≤ length (now line) ⌝ }
+    requires { ⌜ (from ≤ length (now line)) × (length (now line) ≤ from + 2 * length (now words)) ⌝ }
     ensures { λ r. ⌜ r ≤ length (now (words .exit)) ⌝ }
 {
     let got = text::read_numbers(line, from, words);

@@ -1,7 +1,9 @@
--- The numbers that are handed on are as many as were read. Assumes nothing.
+-- The line is nothing, malformed, or the call of its words. Assumes nothing.
 use mathlib.Core.Path.{sym}
 use native.Mathlib.Omega.{arith}
 use lib.Seq.{length-take-le}
+use borrow.Author.Tests.{not-true, not-false}
+use Rattle.calling.proofs.AnswerLaws.{is-empty, is-comment, is-malformed, is-call}
 use borrow.Author.Needs.{needs}
 use Rattle.calling.proofs.answer_line.Statement.{statement}
 use Rattle.calling.proofs.answer_line.Tie as tie
@@ -13,7 +15,7 @@ left-requires : tie.Need-left-requires
 left-requires c κs = search needs
 
 returns : tie.Need-returns
-returns c = search needs
+returns c = is-empty _ _ _ _ _ _ (c .before .before .skip-blanks .ensures) (c .before .if1 .taken) (c .left .ensures .0)
 
 shared-slice-read-if2 : tie.Need-shared-slice-read-if2
 shared-slice-read-if2 c = search needs
@@ -22,7 +24,7 @@ left-requires-2 : tie.Need-left-requires-2
 left-requires-2 c κs = search needs
 
 returns-2 : tie.Need-returns-2
-returns-2 c = search needs
+returns-2 c = is-comment _ _ _ _ _ (c .before .if2 .taken) (c .left2 .ensures .0)
 
 find-requires : tie.Need-find-requires
 find-requires c κs = search needs
@@ -40,7 +42,13 @@ same-length-2 : tie.Need-same-length-2
 same-length-2 c = search needs
 
 returns-3 : tie.Need-returns-3
-returns-3 c = search needs
+returns-3 c =
+    is-malformed _ _ _ _ _ _ _ (c .before .before .before .before .before .before .before .before .before .before .before .before .before .before .skip-blanks .ensures)
+    (c .before .before .before .before .before .before .before .before .before .before .before .before .before .if1 .left)
+    (c .before .before .before .before .before .before .before .before .before .before .before .if2 .left)
+    (c .before .before .before .before .before .before .before .before .before .before .find .ensures) _ _ _
+    (c .before .before .before .before .before .before .before .before .read-numbers .ensures) (not-true _ (c .before .before .before .before .if3 .taken))
+    (c .before .before .malformed .ensures)
 
 sub-call : tie.Need-sub-call
 sub-call c = search needs
@@ -73,7 +81,15 @@ same-length-6 : tie.Need-same-length-6
 same-length-6 c = search needs
 
 returns-4 : tie.Need-returns-4
-returns-4 c = search needs
+returns-4 c =
+    is-call _ _ _ _ _ _ _
+    (c .before .before .before .before .before .before .before .before .before .before .before .before .before .before .before .before .before .before .before .before .before .before .skip-blanks .ensures)
+    (c .before .before .before .before .before .before .before .before .before .before .before .before .before .before .before .before .before .before .before .before .before .if1 .left)
+    (c .before .before .before .before .before .before .before .before .before .before .before .before .before .before .before .before .before .before .before .if2 .left)
+    (c .before .before .before .before .before .before .before .before .before .before .before .before .before .before .before .before .before .before .find .ensures) _ _ _
+    (c .before .before .before .before .before .before .before .before .before .before .before .before .before .before .before .before .read-numbers .ensures)
+    (not-false _ (c .before .before .before .before .before .before .before .before .before .before .before .before .if3 .left))
+    (c .before .before .before .before .before .before .call .ensures)
 
 pub answer-line-spec : {M : Type 1} → statement M
 answer-line-spec =

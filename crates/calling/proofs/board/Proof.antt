@@ -1,7 +1,8 @@
--- The part of the buffer that is lent is as long as asked, or whole. Assumes nothing.
+-- The part of the text that is lent is as long as asked, or whole. Assumes nothing.
 use mathlib.Core.Path.{sym}
 use native.Mathlib.Omega.{arith}
 use lib.Seq.{length-take-le}
+use Rattle.calling.proofs.LineLaws.{board-malformed, board-made}
 use borrow.Author.Needs.{needs}
 use Rattle.calling.proofs.board.Statement.{statement}
 use Rattle.calling.proofs.board.Tie as tie
@@ -13,7 +14,7 @@ same-length : tie.Need-same-length
 same-length c = search needs
 
 returns : tie.Need-returns
-returns c = search needs
+returns c = board-malformed _ _ _ _ (c .before .before .before .before .if1 .taken) (c .before .before .malformed .ensures)
 
 shared-slice-read-at-most : tie.Need-shared-slice-read-at-most
 shared-slice-read-at-most c = search needs
@@ -43,7 +44,10 @@ same-length-3 : tie.Need-same-length-3
 same-length-3 c = search needs
 
 returns-2 : tie.Need-returns-2
-returns-2 c = search needs
+returns-2 c =
+    board-made _ _ _ _ _ _ (c .before .before .before .before .before .before .before .before .before .before .before .before .if1 .left)
+    (c .before .before .before .before .before .before .before .before .before .before .at-most .ensures) (c .before .before .before .before .before .before .before .before .board .ensures)
+    (c .left .ensures .0)
 
 pub board-spec : {M : Type 1} → statement M
 board-spec =

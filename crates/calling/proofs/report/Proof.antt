@@ -2,6 +2,7 @@
 use mathlib.Core.Path.{sym}
 use native.Mathlib.Omega.{arith}
 use lib.Seq.{length-take-le}
+use Rattle.calling.proofs.LineLaws.{report-malformed, report-other, report-made}
 use borrow.Author.Needs.{needs}
 use Rattle.calling.proofs.report.Statement.{statement}
 use Rattle.calling.proofs.report.Tie as tie
@@ -13,7 +14,7 @@ same-length : tie.Need-same-length
 same-length c = search needs
 
 returns : tie.Need-returns
-returns c = search needs
+returns c = report-malformed _ _ _ _ (c .before .before .before .before .if1 .taken) (c .before .before .malformed .ensures)
 
 shared-slice-read-if2 : tie.Need-shared-slice-read-if2
 shared-slice-read-if2 c = search needs
@@ -25,10 +26,13 @@ same-length-2 : tie.Need-same-length-2
 same-length-2 c = search needs
 
 returns-2 : tie.Need-returns-2
-returns-2 c = search needs
+returns-2 c = report-other _ _ _ _ (c .before .before .before .before .before .before .if1 .left) (c .before .before .before .before .if2 .taken) (c .before .before .malformed2 .ensures)
 
-shared-slice-read-if3 : tie.Need-shared-slice-read-if3
-shared-slice-read-if3 c = search needs
+shared-slice-read-outcome-of : tie.Need-shared-slice-read-outcome-of
+shared-slice-read-outcome-of c = search needs
+
+outcome-of-requires : tie.Need-outcome-of-requires
+outcome-of-requires c κs = search needs
 
 shared-slice-read-at-most : tie.Need-shared-slice-read-at-most
 shared-slice-read-at-most c = search needs
@@ -67,7 +71,13 @@ same-length-4 : tie.Need-same-length-4
 same-length-4 c = search needs
 
 returns-3 : tie.Need-returns-3
-returns-3 c = search needs
+returns-3 c =
+    report-made _ _ _ _ _ _ _
+    (c .before .before .before .before .before .before .before .before .before .before .before .before .before .before .before .before .before .before .before .if1 .left)
+    (c .before .before .before .before .before .before .before .before .before .before .before .before .before .before .before .before .before .if2 .left)
+    (c .before .before .before .before .before .before .before .before .before .before .before .before .before .before .before .outcome-of .ensures)
+    (c .before .before .before .before .before .before .before .before .before .before .before .before .before .at-most .ensures)
+    (c .before .before .before .before .before .before .before .before .report .ensures) (c .left .ensures .0)
 
 pub report-spec : {M : Type 1} → statement M
 report-spec =
@@ -80,7 +90,8 @@ report-spec =
     malformed-requires-2
     same-length-2
     returns-2
-    shared-slice-read-if3
+    shared-slice-read-outcome-of
+    outcome-of-requires
     shared-slice-read-at-most
     at-most-requires
     shared-slice-read-report

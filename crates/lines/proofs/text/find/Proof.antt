@@ -1,23 +1,27 @@
--- The place stays between the two ends, and what is left is the measure. Assumes nothing.
-use Prim.Native.Nat.{_≤_, _-_}
+-- None before the place holds the byte. Assumes nothing.
+use Prim.Native.Nat.{_-_}
+use native.Mathlib.Omega.{arith}
+use borrow.Author.Tests.{eq-eqb, ne-eqb}
+use Rattle.lines.specs.Words.{isByte}
+use Rattle.lines.proofs.FirstLaws.{NoneYet, none-yet, none-more, first-there, first-none}
 use borrow.Author.Needs.{needs}
 use Rattle.lines.proofs.text.find.Statement.{statement}
 use Rattle.lines.proofs.text.find.Tie as tie
 
 abbrev Inv-loop : tie.InvT-loop
-Inv-loop s from to byte i₀ i = (from ≤ i) × (i ≤ to)
+Inv-loop s from to byte i₀ i = NoneYet (isByte s byte) from to i
 
 abbrev μ-loop : tie.MeasureT-loop
 μ-loop s from to byte i₀ i = to - i
 
 loop-holds : tie.Need-loop-holds Inv-loop μ-loop
-loop-holds c = search needs
+loop-holds c = none-yet _ _ _ (c .pre .0)
 
 shared-slice-read-if1 : tie.Need-shared-slice-read-if1 Inv-loop μ-loop
 shared-slice-read-if1 c = search needs
 
 returns : tie.Need-returns Inv-loop μ-loop
-returns c = search needs
+returns c = first-there _ _ _ _ (c .before .before .before .loop .inv) (eq-eqb _ _ (c .if1 .taken))
 
 add-i : tie.Need-add-i Inv-loop μ-loop
 add-i c = search needs
@@ -26,10 +30,10 @@ loop-less : tie.Need-loop-less Inv-loop μ-loop
 loop-less c = search needs
 
 loop-again : tie.Need-loop-again Inv-loop μ-loop
-loop-again c = search needs
+loop-again c = none-more _ _ _ _ (c .before .before .before .loop .inv) (omega arith) (ne-eqb _ _ (c .if1 .left))
 
 returns-2 : tie.Need-returns-2 Inv-loop μ-loop
-returns-2 c = search needs
+returns-2 c = first-none _ _ _ _ (c .before .loop .inv) (omega arith)
 
 pub find-spec : {M : Type 1} → statement M
 find-spec =

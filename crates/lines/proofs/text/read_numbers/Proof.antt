@@ -1,14 +1,15 @@
--- The place stays within the line and moves on with each word, so that what is left is the measure; the count stays within the places. Assumes nothing.
-use Prim.Native.Nat.{_≤_, _-_}
-use mathlib.Core.Path.{_≡_}
-use lib.ListN.{length, length-set}
+-- The words before the place are numbers, and stand at the front; what is left is the measure. Assumes nothing.
+use Prim.Native.Nat.{_-_}
+use mathlib.Core.Path.{sym, _∙_}
 use native.Mathlib.Omega.{arith}
+use lib.ListN.{length}
+use Rattle.lines.proofs.ReadingLaws.{Reading, reading-start, reading-end, reading-room, reading-not, reading-more}
 use borrow.Author.Needs.{needs}
 use Rattle.lines.proofs.text.read_numbers.Statement.{statement}
 use Rattle.lines.proofs.text.read_numbers.Tie as tie
 
 abbrev Inv-loop : tie.InvT-loop
-Inv-loop s from out₀ count₀ at₀ out count at = (length out ≡ length out₀) × (count ≤ length out) × (at ≤ length s)
+Inv-loop s from out₀ count₀ at₀ out count at = Reading s from out₀ out count at
 
 abbrev μ-loop : tie.MeasureT-loop
 μ-loop s from out₀ count₀ at₀ out count at = length s - at
@@ -17,7 +18,7 @@ skip-blanks-requires : tie.Need-skip-blanks-requires Inv-loop μ-loop
 skip-blanks-requires c κs = search needs
 
 loop-holds : tie.Need-loop-holds Inv-loop μ-loop
-loop-holds c = search needs
+loop-holds c = reading-start _ _ _ _ (c .skip-blanks .ensures)
 
 add-find : tie.Need-add-find Inv-loop μ-loop
 add-find c = search needs
@@ -47,19 +48,20 @@ same-length : tie.Need-same-length Inv-loop μ-loop
 same-length c = search needs
 
 returns : tie.Need-returns Inv-loop μ-loop
-returns c = search needs
-
-same-length-2 : tie.Need-same-length-2 Inv-loop μ-loop
-same-length-2 c = search needs
-
-returns-2 : tie.Need-returns-2 Inv-loop μ-loop
-returns-2 c = search needs
+returns c =
+    reading-not _ _ _ _ _ _ (c .before .before .before .before .before .before .loop .inv) (omega arith)
+    (c .before .before .before .before .before .before .before .before .before .before .pre .1) _ (c .before .before .before .before .find .ensures)
+    (sym (c .before .before .read-number .ensures) ∙ c .enum-told .given .1)
 
 mul-out : tie.Need-mul-out Inv-loop μ-loop
-mul-out c = search needs
+mul-out c =
+    let h = reading-room _ _ _ _ _ _ (c .before .before .before .before .before .before .before .loop .inv) (omega arith)
+    (c .before .before .before .before .before .before .before .before .before .before .before .pre .1) in search needs
 
 slice-write-out : tie.Need-slice-write-out Inv-loop μ-loop
-slice-write-out c = search needs
+slice-write-out c =
+    reading-room _ _ _ _ _ _ (c .before .before .before .before .before .before .before .loop .inv) (omega arith)
+    (c .before .before .before .before .before .before .before .before .before .before .before .pre .1)
 
 add-count : tie.Need-add-count Inv-loop μ-loop
 add-count c = search needs
@@ -71,13 +73,16 @@ loop-less : tie.Need-loop-less Inv-loop μ-loop
 loop-less c = search needs
 
 loop-again : tie.Need-loop-again Inv-loop μ-loop
-loop-again c = (simp length-set (omega arith), simp length-set (omega arith), omega arith)
+loop-again c =
+    reading-more _ _ _ _ _ _ (c .before .before .before .before .before .before .before .before .loop .inv) (omega arith)
+    (c .before .before .before .before .before .before .before .before .before .before .before .before .pre .1) _ (c .before .before .before .before .before .before .find .ensures) _
+    (sym (c .before .before .before .before .read-number .ensures) ∙ c .before .before .x .given .1) _ (c .skip-blanks2 .ensures)
 
-same-length-3 : tie.Need-same-length-3 Inv-loop μ-loop
-same-length-3 c = search needs
+same-length-2 : tie.Need-same-length-2 Inv-loop μ-loop
+same-length-2 c = search needs
 
-returns-3 : tie.Need-returns-3 Inv-loop μ-loop
-returns-3 c = search needs
+returns-2 : tie.Need-returns-2 Inv-loop μ-loop
+returns-2 c = reading-end _ _ _ _ _ _ (c .before .loop .inv) (omega arith)
 
 pub read-numbers-spec : {M : Type 1} → statement M
 read-numbers-spec =
@@ -97,13 +102,11 @@ read-numbers-spec =
     enum-told
     same-length
     returns
-    same-length-2
-    returns-2
     mul-out
     slice-write-out
     add-count
     skip-blanks-requires-2
     loop-less
     loop-again
-    same-length-3
-    returns-3)
+    same-length-2
+    returns-2)

@@ -1,0 +1,120 @@
+-- What a line of the console says, and what becomes of the state.
+use Prim.Native.Nat.{ℕ, _+_}
+use mathlib.Core.Bool.{_&&_}
+use mathlib.Core.List.{List, [], _∷_}
+use lib.ListN.{length, take, drop}
+use lib.Dec.{eqb, leb}
+use Rattle.laws.specs.Choice.{if_then_else_}
+use Rattle.rules.specs.declared.Setup.{Setup}
+use Rattle.rules.specs.declared.State.{State}
+use Rattle.rules.specs.declared.Outcome.{Outcome}
+use Rattle.rules.specs.declared.Outcome.the-variants
+use Rattle.rules.specs.State.{at}
+use Rattle.rules.specs.Calls.{Call, job, pick, report, ask, board, setupReply, replyTo}
+use Rattle.lines.specs.Words.{wordsOf, sameBytes, allNumbers, numbersOf}
+use Rattle.lines.specs.Setups.{announced, setupOf}
+
+pub data Line : Type 0 where
+  -- an empty line, or one that begins with '#': no call, and no answer
+  nothing : Line
+  malformed : Line
+  setup : Setup → Line
+  call : Call → Line
+
+-- The calls: their numbers and, in the order of these, their arguments. A call is lent as many places of a buffer as the line says, or all where the
+-- buffer has fewer.
+
+-- T, T times 13 numbers, D, D transport numbers
+unfoldable pub setupLine : List ℕ → Line
+setupLine words = if announced words then setup (setupOf words) else malformed
+
+-- clock transport list-places count, then count destinations
+unfoldable pub jobLine : List ℕ → List ℕ → Line
+jobLine words list =
+    if eqb (length words) (4 + at words 3)
+    then call (job (at words 0) (at words 1) (drop 4 words) (take (at words 2) list))
+    else malformed
+
+-- clock
+unfoldable pub pickLine : List ℕ → Line
+pickLine words = if eqb (length words) 1 then call (pick (at words 0)) else malformed
+
+-- 0 success, 1 failure
+unfoldable pub outcomeOf : ℕ → Outcome
+outcomeOf n = if eqb n 1 then Outcome.Failure else Outcome.Success
+
+-- clock entry ticket outcome list-places
+unfoldable pub reportLine : List ℕ → List ℕ → Line
+reportLine words list =
+    if eqb (length words) 5 && leb (at words 3) 1
+    then call (report (at words 0) (at words 1) (at words 2) (outcomeOf (at words 3)) (take (at words 4) list))
+    else malformed
+
+-- job
+unfoldable pub askLine : List ℕ → Line
+askLine words = if eqb (length words) 1 then call (ask (at words 0)) else malformed
+
+-- buffer-length
+unfoldable pub boardLine : List ℕ → List ℕ → Line
+boardLine words text = if eqb (length words) 1 then call (board (take (at words 0) text)) else malformed
+
+-- Their names.
+
+abbrev pub setupName : List ℕ
+setupName = 115 ∷ 101 ∷ 116 ∷ 117 ∷ 112 ∷ []
+
+abbrev pub jobName : List ℕ
+jobName = 106 ∷ 111 ∷ 98 ∷ []
+
+abbrev pub pickName : List ℕ
+pickName = 112 ∷ 105 ∷ 99 ∷ 107 ∷ []
+
+abbrev pub reportName : List ℕ
+reportName = 114 ∷ 101 ∷ 112 ∷ 111 ∷ 114 ∷ 116 ∷ []
+
+abbrev pub askName : List ℕ
+askName = 97 ∷ 115 ∷ 107 ∷ []
+
+abbrev pub boardName : List ℕ
+boardName = 98 ∷ 111 ∷ 97 ∷ 114 ∷ 100 ∷ []
+
+-- 0 for any other
+unfoldable pub kindOf : List ℕ → ℕ
+kindOf name =
+    if sameBytes name setupName then 1
+    else if sameBytes name jobName then 2
+    else if sameBytes name pickName then 3
+    else if sameBytes name reportName then 4
+    else if sameBytes name askName then 5
+    else if sameBytes name boardName then 6
+    else 0
+
+unfoldable pub lineOfKind : ℕ → List ℕ → List ℕ → List ℕ → Line
+lineOfKind kind words list text =
+    if eqb kind 1 then setupLine words
+    else if eqb kind 2 then jobLine words list
+    else if eqb kind 3 then pickLine words
+    else if eqb kind 4 then reportLine words list
+    else if eqb kind 5 then askLine words
+    else if eqb kind 6 then boardLine words text
+    else malformed
+
+-- A name and numbers.
+abbrev pub callLine : List ℕ → List ℕ → List ℕ → List ℕ → Line
+callLine name words list text = lineOfKind (kindOf name) words list text
+
+-- A line's words: the first is the name, each other a number.
+unfoldable pub meaningOfWords : List (List ℕ) → List ℕ → List ℕ → Line
+meaningOfWords [] list text = nothing
+meaningOfWords (name ∷ words) list text = if allNumbers words then callLine name (numbersOf words) list text else malformed
+
+-- A line, with what the lent list and the lent text hold.
+unfoldable pub meaningOf : List ℕ → List ℕ → List ℕ → Line
+meaningOf line list text = if eqb (at line 0) 35 then nothing else meaningOfWords (wordsOf line) list text
+
+-- What becomes of the state.
+unfoldable pub stateOn : State → Line → State
+stateOn s nothing = s
+stateOn s malformed = s
+stateOn s (setup u) = setupReply u .state
+stateOn s (call c) = replyTo s c .state
