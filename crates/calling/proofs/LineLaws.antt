@@ -1,10 +1,9 @@
 -- The state that a call of one kind left is the one that its line says.
 use Prim.Native.Nat.{ℕ, _+_, _-_, _≤_, _<_, min}
-use mathlib.Core.Path.{_≡_, refl, sym, _∙_, ap}
+use mathlib.Core.Path.{_≡_, refl, _∙_, ap}
 use mathlib.Core.Bool.{true, false}
 use mathlib.Core.List.{List}
 use native.Mathlib.Omega.{arith}
-use native.Mathlib.Decide.{decLt}
 use lib.ListN.{length, take, drop, length-drop}
 use lib.Seq.{take-all}
 use borrow.Author.Tests.{eq-eqb, ne-eqb, le-leb, lt-leb}
@@ -18,17 +17,12 @@ use Rattle.rules.specs.State.{at}
 use Rattle.rules.specs.Setup.{zeroSetup, zeroState, setupInRange, within}
 use Rattle.rules.specs.Refusals.{setupRefusal}
 use Rattle.rules.specs.Calls.{Reply, unlessRefused, setupReply, jobReply, pickReply, reportReply, askReply, boardReply, replyTo}
+use Rattle.lines.specs.Names.{setupName, jobName, pickName, reportName, askName, boardName}
 use Rattle.lines.specs.Words.{sameBytes}
 use Rattle.lines.specs.Setups.{placeOfD, announced, countPlace, setupFrom}
+use Rattle.lines.proofs.PutLaws.{take-most}
 use Rattle.calling.specs.Meaning.{setupLine, jobLine, pickLine, outcomeOf, reportLine, askLine, boardLine, stateOn}
-use Rattle.calling.specs.Meaning.{setupName, jobName, pickName, reportName, askName, boardName, kindOf, lineOfKind, callLine}
-
--- as many places as asked, or all
-take-most : (n : ℕ) (l : List ℕ) {k : ℕ} → k ≡ min n (length l) → take k l ≡ take n l
-take-most n l {k} e = elim (decLt n (length l)) [
-  | yes h ↦ let f : k ≡ n = omega arith in rw f
-  | no h ↦ take-all k l (omega arith) ∙ sym (take-all n l (omega arith))
-]
+use Rattle.calling.specs.Meaning.{kindOf, lineOfKind, callLine}
 
 -- a refused set-up gives the state of all zeros
 pub zero-start : setupReply zeroSetup .state ≡ zeroState
@@ -74,7 +68,7 @@ module _ (s x : State) (words : List ℕ) where
         let d : take (length words - 4) (drop 4 words) ≡ drop 4 words = take-all (length words - 4) (drop 4 words) (omega (arith, length-drop 4 words)) in
         rw (eq-eqb (length words) (4 + at words 3) f)
         (q ∙ ap (λ r. r .state) e ∙ ap (λ ds. jobReply s (at words 0) (at words 1) ds (take k list) .state) d
-        ∙ ap (λ l. jobReply s (at words 0) (at words 1) (drop 4 words) l .state) (take-most (at words 2) list m))
+        ∙ ap (λ l. jobReply s (at words 0) (at words 1) (drop 4 words) l .state) (take-most (at words 2) list k m refl))
 
   -- pick
 
@@ -106,7 +100,7 @@ module _ (s x : State) (words : List ℕ) where
     report-made k o g h l u m e q =
         rw (eq-eqb (length words) 5 h, le-leb (at words 3) 1 l)
         (q ∙ ap (λ r. r .state) e ∙ ap (λ o. reportReply s (at words 0) (at words 1) (at words 2) o (take k list) .state) u
-        ∙ ap (λ l. reportReply s (at words 0) (at words 1) (at words 2) (outcomeOf (at words 3)) l .state) (take-most (at words 4) list m))
+        ∙ ap (λ l. reportReply s (at words 0) (at words 1) (at words 2) (outcomeOf (at words 3)) l .state) (take-most (at words 4) list k m refl))
 
   -- ask
 
@@ -131,7 +125,7 @@ module _ (s x : State) (words : List ℕ) where
     unfolding stateOn boardLine replyTo if_then_else_
     board-made k g h m e q =
         rw (eq-eqb (length words) 1 h)
-        (q ∙ ap (λ r. r .state) e ∙ ap (λ l. boardReply s l .state) (take-most (at words 0) text m))
+        (q ∙ ap (λ r. r .state) e ∙ ap (λ l. boardReply s l .state) (take-most (at words 0) text k m refl))
 
 -- The kinds of names.
 

@@ -11,6 +11,7 @@ use Rattle.rules.specs.declared.Outcome.{Outcome}
 use Rattle.rules.specs.declared.Outcome.the-variants
 use Rattle.rules.specs.State.{at}
 use Rattle.rules.specs.Calls.{Call, job, pick, report, ask, board, setupReply, replyTo}
+use Rattle.lines.specs.Names.{setupName, jobName, pickName, reportName, askName, boardName}
 use Rattle.lines.specs.Words.{wordsOf, sameBytes, allNumbers, numbersOf}
 use Rattle.lines.specs.Setups.{announced, setupOf}
 
@@ -58,27 +59,7 @@ askLine words = if eqb (length words) 1 then call (ask (at words 0)) else malfor
 unfoldable pub boardLine : List ℕ → List ℕ → Line
 boardLine words text = if eqb (length words) 1 then call (board (take (at words 0) text)) else malformed
 
--- Their names.
-
-abbrev pub setupName : List ℕ
-setupName = 115 ∷ 101 ∷ 116 ∷ 117 ∷ 112 ∷ []
-
-abbrev pub jobName : List ℕ
-jobName = 106 ∷ 111 ∷ 98 ∷ []
-
-abbrev pub pickName : List ℕ
-pickName = 112 ∷ 105 ∷ 99 ∷ 107 ∷ []
-
-abbrev pub reportName : List ℕ
-reportName = 114 ∷ 101 ∷ 112 ∷ 111 ∷ 114 ∷ 116 ∷ []
-
-abbrev pub askName : List ℕ
-askName = 97 ∷ 115 ∷ 107 ∷ []
-
-abbrev pub boardName : List ℕ
-boardName = 98 ∷ 111 ∷ 97 ∷ 114 ∷ 100 ∷ []
-
--- 0 for any other
+-- Their names; 0 for any other
 unfoldable pub kindOf : List ℕ → ℕ
 kindOf name =
     if sameBytes name setupName then 1

@@ -1,5 +1,6 @@
 pub mod FirstLaws
 pub mod NumberLaws
+pub mod PutLaws
 pub mod ReadingLaws
 pub mod SetupLaws
 pub mod ShiftLaws

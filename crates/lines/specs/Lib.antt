@@ -1,2 +1,4 @@
+pub mod Names
 pub mod Setups
+pub mod Texts
 pub mod Words

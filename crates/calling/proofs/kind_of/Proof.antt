@@ -2,7 +2,7 @@
 use mathlib.Core.Path.{_≡_, sym, _∙_}
 use mathlib.Core.Bool.{false}
 use Rattle.lines.specs.Words.{sameBytes}
-use Rattle.calling.specs.Meaning.{setupName, jobName, pickName, reportName, askName}
+use Rattle.lines.specs.Names.{setupName, jobName, pickName, reportName, askName}
 use Rattle.calling.proofs.LineLaws.{kind-setup, kind-job, kind-pick, kind-report, kind-ask, kind-board, kind-none}
 use borrow.Author.Needs.{needs}
 use Rattle.calling.proofs.kind_of.Statement.{statement}

@@ -1,13 +1,17 @@
 -- The measure is what is left of the list. Assumes nothing.
-use Prim.Native.Nat.{_≤_, _-_}
-use mathlib.Core.Path.{_≡_}
-use lib.ListN.{length}
+use Prim.Native.Nat.{_-_, _≤_}
+use mathlib.Core.Path.{_≡_, refl, sym, ap}
+use native.Mathlib.Omega.{arith}
+use lib.ListN.{length, take}
+use Rattle.lines.specs.Texts.{Put, numbers}
+use Rattle.rules.specs.Board.{numbered}
+use Rattle.lines.proofs.PutLaws.{put-no-number, put-next-number, put-case, put-as, put-more, take-most}
 use borrow.Author.Needs.{needs}
 use Rattle.lines.proofs.answer.put_list.Statement.{statement}
 use Rattle.lines.proofs.answer.put_list.Tie as tie
 
 abbrev Inv-loop : tie.InvT-loop
-Inv-loop out₀ at n list count p₀ i₀ out p i = (length out ≡ length out₀) × (count ≤ length list)
+Inv-loop out₀ at n list count p₀ i₀ out p i = (length out ≡ length out₀) × (count ≤ length list) × (i ≤ count) × Put (numbers (take i list)) out₀ p₀ out p
 
 abbrev μ-loop : tie.MeasureT-loop
 μ-loop out₀ at n list count p₀ i₀ out p i = count - i
@@ -19,7 +23,7 @@ put-number-requires : tie.Need-put-number-requires Inv-loop μ-loop
 put-number-requires c κs = search needs
 
 loop-holds : tie.Need-loop-holds Inv-loop μ-loop
-loop-holds c = search needs
+loop-holds c = (refl, omega arith, omega arith, put-no-number (c .before .before .before .before .before .before .before .args .list .now) _ _)
 
 mul-wide : tie.Need-mul-wide Inv-loop μ-loop
 mul-wide c = search needs
@@ -40,13 +44,22 @@ loop-less : tie.Need-loop-less Inv-loop μ-loop
 loop-less c = search needs
 
 loop-again : tie.Need-loop-again Inv-loop μ-loop
-loop-again c = search needs
+loop-again c = (
+  search needs,
+  omega arith,
+  omega arith,
+  put-next-number (c .before .before .before .before .before .before .before .before .before .before .before .before .before .before .before .args .list .now) _ _
+      (c .before .before .before .before .before .before .before .loop .i) (c .before .before .before .before .before .before .before .loop .inv .3) (omega arith)
+      (put-case numbered (sym (c .before .before .before .wide .ensures)) (c .before .before .put-number2 .ensures)),
+)
 
 same-length : tie.Need-same-length Inv-loop μ-loop
 same-length c = search needs
 
 returns : tie.Need-returns Inv-loop μ-loop
-returns c = search needs
+returns c =
+    put-more (c .before .before .before .before .put-number .ensures)
+    (put-as (ap numbers (take-most _ (c .before .before .before .before .before .before .before .before .before .args .list .now) (c .before .loop .i) (c .before .before .before .before .before .before .at-most .ensures) (omega arith))) (c .before .loop .inv .3))
 
 pub put-list-spec : {M : Type 1} → statement M
 put-list-spec =

@@ -1,0 +1,23 @@
+-- A byte at its place, or none where there is no place. Assumes nothing.
+use Rattle.lines.proofs.PutLaws.{put-in, put-out}
+use borrow.Author.Needs.{needs}
+use Rattle.lines.proofs.answer.put_byte.Statement.{statement}
+use Rattle.lines.proofs.answer.put_byte.Tie as tie
+
+slice-write-out : tie.Need-slice-write-out
+slice-write-out c = search needs
+
+add-result : tie.Need-add-result
+add-result c = search needs
+
+same-length : tie.Need-same-length
+same-length c = search needs
+
+returns : tie.Need-returns
+returns c = put-in _ _ _ (c .if1 .taken)
+
+returns-2 : tie.Need-returns-2
+returns-2 c = put-out _ _ _ (c .if1 .left)
+
+pub put-byte-spec : {M : Type 1} → statement M
+put-byte-spec = tie.close (tie.spec slice-write-out add-result same-length returns returns-2)
