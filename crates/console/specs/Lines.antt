@@ -8,5 +8,5 @@ use Rattle.rules.specs.declared.State.{State}
 use Rattle.calling.specs.Meaning.{meaningOf, stateOn}
 
 -- A call may be lent 512 places of a list and 4,096 bytes of text, all 0. Mode: 0 for a whole line; the end of one that was too long changes nothing.
-unfoldable pub stateAfter : ℕ → List ℕ → State → State
-stateAfter mode line s = if eqb mode 0 then stateOn s (meaningOf line (replicate 512 0) (replicate 4096 0)) else s
+unfoldable pub afterLine : ℕ → List ℕ → State → State
+afterLine mode line s = if eqb mode 0 then stateOn s (meaningOf line (replicate 512 0) (replicate 4096 0)) else s

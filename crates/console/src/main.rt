@@ -2,7 +2,7 @@
 ghost use mathlib.Core.Path.{_≡_};
 ghost use Prim.Native.Nat.{_+_, _*_, _≤_, _<_};
 ghost use lib.ListN.{length};
-ghost use Rattle.console.specs.Lines.{stateAfter};
+ghost use Rattle.console.specs.Lines.{afterLine};
 use libc::STDIN_FILENO;
 use lines::answer;
 use lines::text;
@@ -65,7 +65,7 @@ struct Held {
 // Answers a line, or the end of one that was too long, and hands on the state that the call left.
 fn answered(line: &[u8], words: &mut [u64], mode: u8, s: State) -> State
     requires { ⌜ length (now line) ≤ 2 * length (now words) ⌝ }
-    ensures { λ r. ⌜ r ≡ stateAfter mode (now (line .entry)) s ⌝ }
+    ensures { λ r. ⌜ r ≡ afterLine mode (now (line .entry)) s ⌝ }
 {
     let mut list_space = [0u16; 512];
     let list: &mut [u16] = &mut list_space;
