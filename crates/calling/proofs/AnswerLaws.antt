@@ -8,31 +8,26 @@ use lib.Dec.{eqb}
 use borrow.Author.Tests.{ne-eqb}
 use Rattle.laws.specs.Choice.{if_then_else_}
 use Rattle.laws.proofs.Choice.{case-bool}
-use Rattle.rules.specs.declared.State.{State}
 use Rattle.rules.specs.State.{at}
 use Rattle.lines.specs.Words.{wordsOf, allNumbers, numbersOf, FirstFrom, isByte, notBlank, Read}
 use Rattle.lines.proofs.WordLaws.{blank-behind, words-first}
 use Rattle.lines.proofs.ReadingLaws.{words-none, skipped}
-use Rattle.calling.specs.Meaning.{nothing, callLine, meaningOfWords, meaningOf, stateOn}
+use Rattle.calling.specs.Meaning.{nothing, malformed, callLine, meaningOfWords, meaningOf}
 
-module _ (s x : State) (line list text : List ℕ) where
-  comment : at line 0 ≡ 35 → meaningOf line list text ≡ nothing
+module _ (line list text : List ℕ) where
+  pub is-comment : at line 0 ≡ 35 → meaningOf line list text ≡ nothing
   unfolding meaningOf if_then_else_
-  comment h = rw h refl
+  is-comment h = rw h refl
 
   not-comment : (at line 0 ≡ 35 → ⊥) → meaningOf line list text ≡ meaningOfWords (wordsOf line) list text
   unfolding meaningOf if_then_else_
   not-comment n = rw (ne-eqb (at line 0) 35 n) refl
 
-  pub is-comment : at line 0 ≡ 35 → x ≡ s → x ≡ stateOn s (meaningOf line list text)
-  unfolding stateOn
-  is-comment h q = rw (comment h) q
-
-  pub is-empty : (p : ℕ) → FirstFrom (notBlank line) 0 (length line) p → length line ≤ p → x ≡ s → x ≡ stateOn s (meaningOf line list text)
-  unfolding stateOn meaningOfWords meaningOf if_then_else_
-  is-empty p f h q =
+  pub is-empty : (p : ℕ) → FirstFrom (notBlank line) 0 (length line) p → length line ≤ p → meaningOf line list text ≡ nothing
+  unfolding meaningOfWords meaningOf if_then_else_
+  is-empty p f h =
       let e : wordsOf line ≡ [] = skipped line 0 p f ∙ words-none line p h in
-      case-bool (eqb (at line 0) 35) (λ t. rw t q) (λ n. rw (n, e) q)
+      case-bool (eqb (at line 0) 35) (λ t. rw t refl) (λ n. rw (n, e) refl)
 
   -- a line with a name, from p up to end
   module _ (p end : ℕ) (f : FirstFrom (notBlank line) 0 (length line) p) (h : p < length line) (n : at line 0 ≡ 35 → ⊥)
@@ -46,13 +41,13 @@ module _ (s x : State) (line list text : List ℕ) where
         (skipped line 0 p f ∙ words-first line p end (f .there h) (blank-behind line p end h (f .there h) g))
 
     module _ (w : Bool) (k : ℕ) (words : List ℕ) (r : Read (wordsOf (drop end line)) w k words) where
-      pub is-malformed : w ≡ false → x ≡ s → x ≡ stateOn s (meaningOf line list text)
-      unfolding stateOn meaningOfWords if_then_else_
-      is-malformed e q = let b : allNumbers (wordsOf (drop end line)) ≡ false = sym (r .told) ∙ e in rw (its-words, b) q
-
-      pub is-call : w ≡ true → x ≡ stateOn s (callLine name (take k words) list text) → x ≡ stateOn s (meaningOf line list text)
+      pub is-malformed : w ≡ false → meaningOf line list text ≡ malformed
       unfolding meaningOfWords if_then_else_
-      is-call e q =
+      is-malformed e = let b : allNumbers (wordsOf (drop end line)) ≡ false = sym (r .told) ∙ e in rw (its-words, b) refl
+
+      pub is-call : w ≡ true → meaningOf line list text ≡ callLine name (take k words) list text
+      unfolding meaningOfWords if_then_else_
+      is-call e =
           let b : allNumbers (wordsOf (drop end line)) ≡ true = sym (r .told) ∙ e in
           let m : take k words ≡ numbersOf (wordsOf (drop end line)) = r .front ∙ rw e refl in
-          rw (its-words, b, ← m) q
+          rw (its-words, b, ← m) refl

@@ -1,3 +1,4 @@
 pub mod AnswerLaws
 pub mod LineExamples
 pub mod LineLaws
+pub mod ReplyLaws

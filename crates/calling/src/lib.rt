@@ -10,7 +10,9 @@ ghost use mathlib.Core.Path.{_≡_};
 ghost use lib.ListN.{length};
 ghost use Rattle.rules.specs.Setup.{zeroState};
 ghost use Rattle.rules.specs.Calls.{setupReply};
+ghost use Rattle.lines.specs.Texts.{Put, malformedText};
 ghost use Rattle.calling.specs.Meaning.{setupLine, jobLine, pickLine, reportLine, outcomeOf, askLine, boardLine, kindOf, callLine, meaningOf, stateOn};
+ghost use Rattle.calling.specs.Replies.{startText, textOn};
 
 // The state that a call left, and how many bytes of answer it put into the lent buffer.
 pub struct Reply {
@@ -38,7 +40,8 @@ pub fn answer_line(
     s: State,
 ) -> Reply
     requires { ⌜ length (now line) ≤ 2 * length (now words) ⌝ }
-    ensures { λ r. ⌜ r .state ≡ stateOn s (meaningOf (now (line .entry)) (now (list .entry)) (now (written .entry))) ⌝ }
+    ensures state { λ r. ⌜ r .state ≡ stateOn s (meaningOf (now (line .entry)) (now (list .entry)) (now (written .entry))) ⌝ }
+    ensures text { λ r. ⌜ Put (textOn s (meaningOf (now (line .entry)) (now (list .entry)) (now (written .entry)))) (now (out .entry)) 0 (now (out .exit)) (r .length) ⌝ }
 {
     let at = text::skip_blanks(line, 0);
     let n = line.len();
@@ -68,7 +71,8 @@ pub fn left(s: State, n: usize) -> Reply
 }
 
 fn malformed(out: &mut [u8], s: State) -> Reply
-    ensures { λ r. ⌜ r .state ≡ s ⌝ }
+    ensures state { λ r. ⌜ r .state ≡ s ⌝ }
+    ensures text { λ r. ⌜ Put malformedText (now (out .entry)) 0 (now (out .exit)) (r .length) ⌝ }
 {
     let n = answer::malformed(out);
     left(s, n)
@@ -83,7 +87,8 @@ pub fn call(
     out: &mut [u8],
     s: State,
 ) -> Reply
-    ensures { λ r. ⌜ r .state ≡ stateOn s (callLine (now (name .entry)) (now (words .entry)) (now (list .entry)) (now (written .entry))) ⌝ }
+    ensures state { λ r. ⌜ r .state ≡ stateOn s (callLine (now (name .entry)) (now (words .entry)) (now (list .entry)) (now (written .entry))) ⌝ }
+    ensures text { λ r. ⌜ Put (textOn s (callLine (now (name .entry)) (now (words .entry)) (now (list .entry)) (now (written .entry)))) (now (out .entry)) 0 (now (out .exit)) (r .length) ⌝ }
 {
     let kind = kind_of(name);
     if kind == 1 {
@@ -133,7 +138,8 @@ fn kind_of(name: &[u8]) -> u8
 }
 
 fn set_up(words: &[u64], out: &mut [u8], s: State) -> Reply
-    ensures { λ r. ⌜ r .state ≡ stateOn s (setupLine (now (words .entry))) ⌝ }
+    ensures state { λ r. ⌜ r .state ≡ stateOn s (setupLine (now (words .entry))) ⌝ }
+    ensures text { λ r. ⌜ Put (textOn s (setupLine (now (words .entry)))) (now (out .entry)) 0 (now (out .exit)) (r .length) ⌝ }
 {
     let at = setups::count_place(words);
     if at == 0 {
@@ -145,7 +151,8 @@ fn set_up(words: &[u64], out: &mut [u8], s: State) -> Reply
 
 // The set-up itself.
 pub fn start(u: Setup, out: &mut [u8]) -> Reply
-    ensures { λ r. ⌜ r .state ≡ setupReply u .state ⌝ }
+    ensures state { λ r. ⌜ r .state ≡ setupReply u .state ⌝ }
+    ensures text { λ r. ⌜ Put (startText u) (now (out .entry)) 0 (now (out .exit)) (r .length) ⌝ }
 {
     let r = scheduler::set_up(u);
     let a = r.answer;
@@ -154,7 +161,8 @@ pub fn start(u: Setup, out: &mut [u8]) -> Reply
 }
 
 fn take_job(words: &[u64], list: &mut [u16], out: &mut [u8], s: State) -> Reply
-    ensures { λ r. ⌜ r .state ≡ stateOn s (jobLine (now (words .entry)) (now (list .entry))) ⌝ }
+    ensures state { λ r. ⌜ r .state ≡ stateOn s (jobLine (now (words .entry)) (now (list .entry))) ⌝ }
+    ensures text { λ r. ⌜ Put (textOn s (jobLine (now (words .entry)) (now (list .entry)))) (now (out .entry)) 0 (now (out .exit)) (r .length) ⌝ }
 {
     let k = words.len();
     if k < 4 {
@@ -171,7 +179,8 @@ fn take_job(words: &[u64], list: &mut [u16], out: &mut [u8], s: State) -> Reply
 }
 
 fn pick(words: &[u64], out: &mut [u8], s: State) -> Reply
-    ensures { λ r. ⌜ r .state ≡ stateOn s (pickLine (now (words .entry))) ⌝ }
+    ensures state { λ r. ⌜ r .state ≡ stateOn s (pickLine (now (words .entry))) ⌝ }
+    ensures text { λ r. ⌜ Put (textOn s (pickLine (now (words .entry)))) (now (out .entry)) 0 (now (out .exit)) (r .length) ⌝ }
 {
     if words.len() != 1 {
         return malformed(out, s);
@@ -183,7 +192,8 @@ fn pick(words: &[u64], out: &mut [u8], s: State) -> Reply
 }
 
 fn report(words: &[u64], list: &mut [u16], out: &mut [u8], s: State) -> Reply
-    ensures { λ r. ⌜ r .state ≡ stateOn s (reportLine (now (words .entry)) (now (list .entry))) ⌝ }
+    ensures state { λ r. ⌜ r .state ≡ stateOn s (reportLine (now (words .entry)) (now (list .entry))) ⌝ }
+    ensures text { λ r. ⌜ Put (textOn s (reportLine (now (words .entry)) (now (list .entry)))) (now (out .entry)) 0 (now (out .exit)) (r .length) ⌝ }
 {
     if words.len() != 5 {
         return malformed(out, s);
@@ -216,7 +226,8 @@ fn outcome_of(x: u64) -> Outcome
 }
 
 fn ask(words: &[u64], out: &mut [u8], s: State) -> Reply
-    ensures { λ r. ⌜ r .state ≡ stateOn s (askLine (now (words .entry))) ⌝ }
+    ensures state { λ r. ⌜ r .state ≡ stateOn s (askLine (now (words .entry))) ⌝ }
+    ensures text { λ r. ⌜ Put (textOn s (askLine (now (words .entry)))) (now (out .entry)) 0 (now (out .exit)) (r .length) ⌝ }
 {
     if words.len() != 1 {
         return malformed(out, s);
@@ -227,7 +238,8 @@ fn ask(words: &[u64], out: &mut [u8], s: State) -> Reply
 }
 
 fn board(words: &[u64], written: &mut [u8], out: &mut [u8], s: State) -> Reply
-    ensures { λ r. ⌜ r .state ≡ stateOn s (boardLine (now (words .entry)) (now (written .entry))) ⌝ }
+    ensures state { λ r. ⌜ r .state ≡ stateOn s (boardLine (now (words .entry)) (now (written .entry))) ⌝ }
+    ensures text { λ r. ⌜ Put (textOn s (boardLine (now (words .entry)) (now (written .entry)))) (now (out .entry)) 0 (now (out .exit)) (r .length) ⌝ }
 {
     if words.len() != 1 {
         return malformed(out, s);

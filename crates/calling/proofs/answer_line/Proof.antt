@@ -4,6 +4,7 @@ use native.Mathlib.Omega.{arith}
 use lib.Seq.{length-take-le}
 use borrow.Author.Tests.{not-true, not-false}
 use Rattle.calling.proofs.AnswerLaws.{is-empty, is-comment, is-malformed, is-call}
+use Rattle.calling.proofs.ReplyLaws.{as-line, nothing-said, malformed-said}
 use borrow.Author.Needs.{needs}
 use Rattle.calling.proofs.answer_line.Statement.{statement}
 use Rattle.calling.proofs.answer_line.Tie as tie
@@ -15,7 +16,7 @@ left-requires : tie.Need-left-requires
 left-requires c κs = search needs
 
 returns : tie.Need-returns
-returns c = is-empty _ _ _ _ _ _ (c .before .before .skip-blanks .ensures) (c .before .if1 .taken) (c .left .ensures .0)
+returns c = as-line _ (is-empty _ _ _ _ (c .before .before .skip-blanks .ensures) (c .before .if1 .taken)) (nothing-said _ (c .left .ensures))
 
 shared-slice-read-if2 : tie.Need-shared-slice-read-if2
 shared-slice-read-if2 c = search needs
@@ -24,7 +25,7 @@ left-requires-2 : tie.Need-left-requires-2
 left-requires-2 c κs = search needs
 
 returns-2 : tie.Need-returns-2
-returns-2 c = is-comment _ _ _ _ _ (c .before .if2 .taken) (c .left2 .ensures .0)
+returns-2 c = as-line _ (is-comment _ _ _ (c .before .if2 .taken)) (nothing-said _ (c .left2 .ensures))
 
 find-requires : tie.Need-find-requires
 find-requires c κs = search needs
@@ -43,12 +44,13 @@ same-length-2 c = search needs
 
 returns-3 : tie.Need-returns-3
 returns-3 c =
-    is-malformed _ _ _ _ _ _ _ (c .before .before .before .before .before .before .before .before .before .before .before .before .before .before .skip-blanks .ensures)
+    as-line _
+    (is-malformed _ _ _ _ _ (c .before .before .before .before .before .before .before .before .before .before .before .before .before .before .skip-blanks .ensures)
     (c .before .before .before .before .before .before .before .before .before .before .before .before .before .if1 .left)
     (c .before .before .before .before .before .before .before .before .before .before .before .if2 .left)
     (c .before .before .before .before .before .before .before .before .before .before .find .ensures) _ _ _
-    (c .before .before .before .before .before .before .before .before .read-numbers .ensures) (not-true _ (c .before .before .before .before .if3 .taken))
-    (c .before .before .malformed .ensures)
+    (c .before .before .before .before .before .before .before .before .read-numbers .ensures) (not-true _ (c .before .before .before .before .if3 .taken)))
+    (malformed-said _ (c .before .before .malformed .ensures))
 
 sub-call : tie.Need-sub-call
 sub-call c = search needs
@@ -82,13 +84,14 @@ same-length-6 c = search needs
 
 returns-4 : tie.Need-returns-4
 returns-4 c =
-    is-call _ _ _ _ _ _ _
+    as-line _
+    (is-call _ _ _ _ _
     (c .before .before .before .before .before .before .before .before .before .before .before .before .before .before .before .before .before .before .before .before .before .before .skip-blanks .ensures)
     (c .before .before .before .before .before .before .before .before .before .before .before .before .before .before .before .before .before .before .before .before .before .if1 .left)
     (c .before .before .before .before .before .before .before .before .before .before .before .before .before .before .before .before .before .before .before .if2 .left)
     (c .before .before .before .before .before .before .before .before .before .before .before .before .before .before .before .before .before .before .find .ensures) _ _ _
-    (c .before .before .before .before .before .before .before .before .before .before .before .before .before .before .before .before .read-numbers .ensures)
-    (not-false _ (c .before .before .before .before .before .before .before .before .before .before .before .before .if3 .left))
+    (c .before .before .before .before .before .before .before .before .before .before .before .before .before .before .before .before .read-numbers .ensures) (not-false _
+    (c .before .before .before .before .before .before .before .before .before .before .before .before .if3 .left)))
     (c .before .before .before .before .before .before .call .ensures)
 
 pub answer-line-spec : {M : Type 1} → statement M

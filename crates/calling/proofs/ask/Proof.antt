@@ -1,5 +1,6 @@
--- Asking leaves the state as it is, which is the reply's. Assumes nothing.
+-- Asking leaves the state as it is, which is the reply's; so is the text. Assumes nothing.
 use Rattle.calling.proofs.LineLaws.{ask-malformed, ask-made}
+use Rattle.calling.proofs.ReplyLaws.{as-line, malformed-said, ask-said}
 use borrow.Author.Needs.{needs}
 use Rattle.calling.proofs.ask.Statement.{statement}
 use Rattle.calling.proofs.ask.Tie as tie
@@ -11,7 +12,7 @@ same-length : tie.Need-same-length
 same-length c = search needs
 
 returns : tie.Need-returns
-returns c = ask-malformed _ _ _ (c .before .before .before .before .if1 .taken) (c .before .before .malformed .ensures)
+returns c = as-line _ (ask-malformed _ (c .before .before .before .before .if1 .taken)) (malformed-said _ (c .before .before .malformed .ensures))
 
 shared-slice-read-ask : tie.Need-shared-slice-read-ask
 shared-slice-read-ask c = search needs
@@ -29,7 +30,9 @@ same-length-2 : tie.Need-same-length-2
 same-length-2 c = search needs
 
 returns-2 : tie.Need-returns-2
-returns-2 c = ask-made _ _ _ _ (c .before .before .before .before .before .before .before .if1 .left) (c .before .before .before .before .before .ask .ensures) (c .left .ensures .0)
+returns-2 c =
+    as-line _ (ask-made _ (c .before .before .before .before .before .before .before .if1 .left))
+    (ask-said _ _ _ (c .before .before .before .before .before .ask .ensures) (c .before .before .before .ask2 .ensures) (c .left .ensures))
 
 pub ask-spec : {M : Type 1} → statement M
 ask-spec =

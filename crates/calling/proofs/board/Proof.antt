@@ -3,6 +3,7 @@ use mathlib.Core.Path.{sym}
 use native.Mathlib.Omega.{arith}
 use lib.Seq.{length-take-le}
 use Rattle.calling.proofs.LineLaws.{board-malformed, board-made}
+use Rattle.calling.proofs.ReplyLaws.{as-line, malformed-said, board-said}
 use borrow.Author.Needs.{needs}
 use Rattle.calling.proofs.board.Statement.{statement}
 use Rattle.calling.proofs.board.Tie as tie
@@ -14,7 +15,7 @@ same-length : tie.Need-same-length
 same-length c = search needs
 
 returns : tie.Need-returns
-returns c = board-malformed _ _ _ _ (c .before .before .before .before .if1 .taken) (c .before .before .malformed .ensures)
+returns c = as-line _ (board-malformed _ _ (c .before .before .before .before .if1 .taken)) (malformed-said _ (c .before .before .malformed .ensures))
 
 shared-slice-read-at-most : tie.Need-shared-slice-read-at-most
 shared-slice-read-at-most c = search needs
@@ -45,9 +46,10 @@ same-length-3 c = search needs
 
 returns-2 : tie.Need-returns-2
 returns-2 c =
-    board-made _ _ _ _ _ _ (c .before .before .before .before .before .before .before .before .before .before .before .before .if1 .left)
-    (c .before .before .before .before .before .before .before .before .before .before .at-most .ensures) (c .before .before .before .before .before .before .before .before .board .ensures)
-    (c .left .ensures .0)
+    as-line _
+    (board-made _ _ _ (c .before .before .before .before .before .before .before .before .before .before .before .before .if1 .left)
+    (c .before .before .before .before .before .before .before .before .before .before .at-most .ensures))
+    (board-said _ _ _ _ _ (c .before .before .before .before .before .before .before .before .board .ensures) (c .before .before .before .board2 .ensures) (c .left .ensures))
 
 pub board-spec : {M : Type 1} → statement M
 board-spec =

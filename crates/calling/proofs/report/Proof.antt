@@ -3,6 +3,7 @@ use mathlib.Core.Path.{sym}
 use native.Mathlib.Omega.{arith}
 use lib.Seq.{length-take-le}
 use Rattle.calling.proofs.LineLaws.{report-malformed, report-other, report-made}
+use Rattle.calling.proofs.ReplyLaws.{as-line, malformed-said, report-said}
 use borrow.Author.Needs.{needs}
 use Rattle.calling.proofs.report.Statement.{statement}
 use Rattle.calling.proofs.report.Tie as tie
@@ -14,7 +15,7 @@ same-length : tie.Need-same-length
 same-length c = search needs
 
 returns : tie.Need-returns
-returns c = report-malformed _ _ _ _ (c .before .before .before .before .if1 .taken) (c .before .before .malformed .ensures)
+returns c = as-line _ (report-malformed _ _ (c .before .before .before .before .if1 .taken)) (malformed-said _ (c .before .before .malformed .ensures))
 
 shared-slice-read-if2 : tie.Need-shared-slice-read-if2
 shared-slice-read-if2 c = search needs
@@ -26,7 +27,10 @@ same-length-2 : tie.Need-same-length-2
 same-length-2 c = search needs
 
 returns-2 : tie.Need-returns-2
-returns-2 c = report-other _ _ _ _ (c .before .before .before .before .before .before .if1 .left) (c .before .before .before .before .if2 .taken) (c .before .before .malformed2 .ensures)
+returns-2 c =
+    as-line _
+    (report-other _ _ (c .before .before .before .before .before .before .if1 .left) (c .before .before .before .before .if2 .taken))
+    (malformed-said _ (c .before .before .malformed2 .ensures))
 
 shared-slice-read-outcome-of : tie.Need-shared-slice-read-outcome-of
 shared-slice-read-outcome-of c = search needs
@@ -72,12 +76,13 @@ same-length-4 c = search needs
 
 returns-3 : tie.Need-returns-3
 returns-3 c =
-    report-made _ _ _ _ _ _ _
+    as-line _
+    (report-made _ _ _ _
     (c .before .before .before .before .before .before .before .before .before .before .before .before .before .before .before .before .before .before .before .if1 .left)
     (c .before .before .before .before .before .before .before .before .before .before .before .before .before .before .before .before .before .if2 .left)
     (c .before .before .before .before .before .before .before .before .before .before .before .before .before .before .before .outcome-of .ensures)
-    (c .before .before .before .before .before .before .before .before .before .before .before .before .before .at-most .ensures)
-    (c .before .before .before .before .before .before .before .before .report .ensures) (c .left .ensures .0)
+    (c .before .before .before .before .before .before .before .before .before .before .before .before .before .at-most .ensures))
+    (report-said _ _ _ _ _ _ _ _ _ (c .before .before .before .before .before .before .before .before .report .ensures) (c .before .before .before .report2 .ensures) (c .left .ensures))
 
 pub report-spec : {M : Type 1} → statement M
 report-spec =

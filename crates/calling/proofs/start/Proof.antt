@@ -1,5 +1,5 @@
--- The state of the set-up is the reply's. Assumes nothing.
-use mathlib.Core.Path.{_∙_, ap}
+-- State and text are those of the reply. Assumes nothing.
+use Rattle.calling.proofs.ReplyLaws.{start-said}
 use borrow.Author.Needs.{needs}
 use Rattle.calling.proofs.start.Statement.{statement}
 use Rattle.calling.proofs.start.Tie as tie
@@ -17,7 +17,7 @@ same-length : tie.Need-same-length
 same-length c = search needs
 
 returns : tie.Need-returns
-returns c = c .left .ensures .0 ∙ ap (λ x. x .state) (c .before .before .before .before .before .set-up .ensures .0)
+returns c = start-said _ _ (c .before .before .before .before .before .set-up .ensures) (c .before .before .before .setup .ensures) (c .left .ensures)
 
 pub start-spec : {M : Type 1} → statement M
 start-spec = tie.close (tie.spec set-up-requires setup-requires left-requires same-length returns)

@@ -3,6 +3,7 @@ use mathlib.Core.Path.{sym}
 use native.Mathlib.Omega.{arith}
 use lib.Seq.{length-take-le}
 use Rattle.calling.proofs.LineLaws.{job-short, job-other, job-made}
+use Rattle.calling.proofs.ReplyLaws.{as-line, malformed-said, job-said}
 use borrow.Author.Needs.{needs}
 use Rattle.calling.proofs.take_job.Statement.{statement}
 use Rattle.calling.proofs.take_job.Tie as tie
@@ -14,7 +15,7 @@ same-length : tie.Need-same-length
 same-length c = search needs
 
 returns : tie.Need-returns
-returns c = job-short _ _ _ _ (c .before .before .before .before .if1 .taken) (c .before .before .malformed .ensures)
+returns c = as-line _ (job-short _ _ (c .before .before .before .before .if1 .taken)) (malformed-said _ (c .before .before .malformed .ensures))
 
 shared-slice-read-if2 : tie.Need-shared-slice-read-if2
 shared-slice-read-if2 c = search needs
@@ -26,7 +27,10 @@ same-length-2 : tie.Need-same-length-2
 same-length-2 c = search needs
 
 returns-2 : tie.Need-returns-2
-returns-2 c = job-other _ _ _ _ (c .before .before .before .before .before .before .if1 .left) (c .before .before .before .before .if2 .taken) (c .before .before .malformed2 .ensures)
+returns-2 c =
+    as-line _
+    (job-other _ _ (c .before .before .before .before .before .before .if1 .left) (c .before .before .before .before .if2 .taken))
+    (malformed-said _ (c .before .before .malformed2 .ensures))
 
 shared-slice-read-at-most : tie.Need-shared-slice-read-at-most
 shared-slice-read-at-most c = search needs
@@ -69,10 +73,11 @@ same-length-4 c = search needs
 
 returns-3 : tie.Need-returns-3
 returns-3 c =
-    job-made _ _ _ _ _ _ (c .before .before .before .before .before .before .before .before .before .before .before .before .before .before .before .before .before .if1 .left)
+    as-line _
+    (job-made _ _ _ (c .before .before .before .before .before .before .before .before .before .before .before .before .before .before .before .before .before .if1 .left)
     (c .before .before .before .before .before .before .before .before .before .before .before .before .before .before .before .if2 .left)
-    (c .before .before .before .before .before .before .before .before .before .before .before .before .before .at-most .ensures)
-    (c .before .before .before .before .before .before .before .before .take-job .ensures) (c .left .ensures .0)
+    (c .before .before .before .before .before .before .before .before .before .before .before .before .before .at-most .ensures))
+    (job-said _ _ _ _ _ _ _ _ (c .before .before .before .before .before .before .before .before .take-job .ensures) (c .before .before .before .job .ensures) (c .left .ensures))
 
 pub take-job-spec : {M : Type 1} → statement M
 take-job-spec =

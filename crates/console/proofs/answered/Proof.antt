@@ -25,7 +25,7 @@ same-length c = search needs
 returns : tie.Need-returns
 returns c =
     after-line _ _ _ _ (c .before .before .before .before .before .before .before .before .before .before .before .before .before .if1 .taken)
-    (c .before .before .before .before .before .before .before .before .before .before .answer-line .ensures)
+    (c .before .before .before .before .before .before .before .before .before .before .answer-line .ensures .0)
 
 malformed-requires : tie.Need-malformed-requires
 malformed-requires c κs = search needs
