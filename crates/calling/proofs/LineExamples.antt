@@ -11,7 +11,7 @@ use Rattle.rules.specs.Board.{decimalIn, decimal}
 use Rattle.rules.specs.Calls.{Says, Reply, job, pick, report, ask, board, refused, granted}
 use Rattle.lines.specs.Words.{longer, pieces, notEmpty, wordsOf, sameBytes, valueFrom, valueOf, isNumber, allNumbers}
 use Rattle.lines.specs.Texts.{numbers, shownByte}
-use Rattle.calling.specs.Meaning.{Line, nothing, malformed, call, jobLine, pickLine, reportLine, outcomeOf, kindOf, lineOfKind, meaningOfWords, meaningOf}
+use Rattle.calling.specs.Meaning.{Line, nothing, malformed, call, jobLine, pickLine, reportLine, outcomeOf, callLine, meaningOfWords, meaningOf}
 use Rattle.calling.specs.Replies.{valuesText, replyText}
 
 pub lines-say :
@@ -29,7 +29,7 @@ pub lines-say :
     -- "#pick 1", and a line of blanks
     × (meaningOf (35 ∷ 112 ∷ 105 ∷ 99 ∷ 107 ∷ 32 ∷ 49 ∷ []) [] [] ≡ nothing)
     × (meaningOf (32 ∷ 32 ∷ []) [] [] ≡ nothing)
-unfolding longer pieces notEmpty wordsOf sameBytes valueFrom valueOf isNumber allNumbers everyIn if_then_else_ jobLine pickLine reportLine outcomeOf kindOf lineOfKind meaningOfWords meaningOf
+unfolding longer pieces notEmpty wordsOf sameBytes valueFrom valueOf isNumber allNumbers everyIn if_then_else_ jobLine pickLine reportLine outcomeOf callLine meaningOfWords meaningOf
 lines-say = (refl, refl, refl, refl, refl, refl, refl)
 
 -- a reply that says this, with this in the buffer

@@ -4,6 +4,7 @@ use mathlib.Core.Path.{_≡_, refl, sym, _∙_, ap}
 use mathlib.Core.Bool.{true, false}
 use mathlib.Core.List.{List}
 use native.Mathlib.Omega.{arith}
+use lib.Dec.{eqb}
 use lib.ListN.{length, take, drop, length-drop}
 use lib.Seq.{take-all}
 use borrow.Author.Tests.{eq-eqb, ne-eqb, le-leb, lt-leb}
@@ -21,7 +22,7 @@ use Rattle.lines.specs.Words.{sameBytes}
 use Rattle.lines.specs.Setups.{placeOfD, announced, countPlace, setupFrom}
 use Rattle.lines.proofs.PutLaws.{take-most}
 use Rattle.calling.specs.Meaning.{malformed, setup, call, setupLine, jobLine, pickLine, outcomeOf, reportLine, askLine, boardLine}
-use Rattle.calling.specs.Meaning.{kindOf, lineOfKind, callLine}
+use Rattle.calling.specs.Meaning.{Line, kindOf, callLine}
 
 -- a refused set-up gives the state of all zeros
 pub zero-start : setupReply zeroSetup .state ≡ zeroState
@@ -149,38 +150,63 @@ module _ (name : List ℕ) where
             unfolding kindOf if_then_else_
             kind-none h = rw (a, b, c, d, e, h) refl
 
--- A name and its numbers.
+-- A name and its numbers, by its kind.
+
+module _ (words list text : List ℕ) where
+  lineOfKind : ℕ → Line
+  lineOfKind kind =
+      if eqb kind 1 then setupLine words
+      else if eqb kind 2 then jobLine words list
+      else if eqb kind 3 then pickLine words
+      else if eqb kind 4 then reportLine words list
+      else if eqb kind 5 then askLine words
+      else if eqb kind 6 then boardLine words text
+      else malformed
+
+  module _ (name : List ℕ) where
+    by-kind : callLine name words list text ≡ lineOfKind (kindOf name)
+    unfolding callLine kindOf lineOfKind if_then_else_
+    by-kind =
+        case-bool (sameBytes name setupName) (λ h. rw h refl) λ a.
+        case-bool (sameBytes name jobName) (λ h. rw (a, h) refl) λ b.
+        case-bool (sameBytes name pickName) (λ h. rw (a, b, h) refl) λ c.
+        case-bool (sameBytes name reportName) (λ h. rw (a, b, c, h) refl) λ d.
+        case-bool (sameBytes name askName) (λ h. rw (a, b, c, d, h) refl) λ e.
+        case-bool (sameBytes name boardName) (λ h. rw (a, b, c, d, e, h) refl) λ f. rw (a, b, c, d, e, f) refl
 
 module _ (name words list text : List ℕ) (k : ℕ) (e : k ≡ kindOf name) where
+  of-kind : {x : Line} → lineOfKind words list text k ≡ x → callLine name words list text ≡ x
+  of-kind h = by-kind words list text name ∙ ap (lineOfKind words list text) (sym e) ∙ h
+
   pub call-setup : k ≡ 1 → callLine name words list text ≡ setupLine words
   unfolding lineOfKind if_then_else_
-  call-setup h = rw (← e, h) refl
+  call-setup h = of-kind (rw h refl)
 
   pub call-job : k ≡ 2 → callLine name words list text ≡ jobLine words list
   unfolding lineOfKind if_then_else_
-  call-job h = rw (← e, h) refl
+  call-job h = of-kind (rw h refl)
 
   pub call-pick : k ≡ 3 → callLine name words list text ≡ pickLine words
   unfolding lineOfKind if_then_else_
-  call-pick h = rw (← e, h) refl
+  call-pick h = of-kind (rw h refl)
 
   pub call-report : k ≡ 4 → callLine name words list text ≡ reportLine words list
   unfolding lineOfKind if_then_else_
-  call-report h = rw (← e, h) refl
+  call-report h = of-kind (rw h refl)
 
   pub call-ask : k ≡ 5 → callLine name words list text ≡ askLine words
   unfolding lineOfKind if_then_else_
-  call-ask h = rw (← e, h) refl
+  call-ask h = of-kind (rw h refl)
 
   pub call-board : k ≡ 6 → callLine name words list text ≡ boardLine words text
   unfolding lineOfKind if_then_else_
-  call-board h = rw (← e, h) refl
+  call-board h = of-kind (rw h refl)
 
   pub call-none :
       (k ≡ 1 → ⊥) → (k ≡ 2 → ⊥) → (k ≡ 3 → ⊥) → (k ≡ 4 → ⊥) → (k ≡ 5 → ⊥) → (k ≡ 6 → ⊥)
       → callLine name words list text ≡ malformed
   unfolding lineOfKind if_then_else_
-  call-none n1 n2 n3 n4 n5 n6 = rw (← e, ne-eqb k 1 n1, ne-eqb k 2 n2, ne-eqb k 3 n3, ne-eqb k 4 n4, ne-eqb k 5 n5, ne-eqb k 6 n6) refl
+  call-none n1 n2 n3 n4 n5 n6 = of-kind (rw (ne-eqb k 1 n1, ne-eqb k 2 n2, ne-eqb k 3 n3, ne-eqb k 4 n4, ne-eqb k 5 n5, ne-eqb k 6 n6) refl)
 
 -- Outcomes.
 

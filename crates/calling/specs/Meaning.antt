@@ -59,30 +59,16 @@ askLine words = if eqb (length words) 1 then call (ask (at words 0)) else malfor
 unfoldable pub boardLine : List ℕ → List ℕ → Line
 boardLine words text = if eqb (length words) 1 then call (board (take (at words 0) text)) else malformed
 
--- Their names; 0 for any other
-unfoldable pub kindOf : List ℕ → ℕ
-kindOf name =
-    if sameBytes name setupName then 1
-    else if sameBytes name jobName then 2
-    else if sameBytes name pickName then 3
-    else if sameBytes name reportName then 4
-    else if sameBytes name askName then 5
-    else if sameBytes name boardName then 6
-    else 0
-
-unfoldable pub lineOfKind : ℕ → List ℕ → List ℕ → List ℕ → Line
-lineOfKind kind words list text =
-    if eqb kind 1 then setupLine words
-    else if eqb kind 2 then jobLine words list
-    else if eqb kind 3 then pickLine words
-    else if eqb kind 4 then reportLine words list
-    else if eqb kind 5 then askLine words
-    else if eqb kind 6 then boardLine words text
+-- A name and its numbers.
+unfoldable pub callLine : List ℕ → List ℕ → List ℕ → List ℕ → Line
+callLine name words list text =
+    if sameBytes name setupName then setupLine words
+    else if sameBytes name jobName then jobLine words list
+    else if sameBytes name pickName then pickLine words
+    else if sameBytes name reportName then reportLine words list
+    else if sameBytes name askName then askLine words
+    else if sameBytes name boardName then boardLine words text
     else malformed
-
--- A name and numbers.
-abbrev pub callLine : List ℕ → List ℕ → List ℕ → List ℕ → Line
-callLine name words list text = lineOfKind (kindOf name) words list text
 
 -- A line's words: the first is the name, each other a number.
 unfoldable pub meaningOfWords : List (List ℕ) → List ℕ → List ℕ → Line
@@ -99,3 +85,14 @@ stateOn s nothing = s
 stateOn s malformed = s
 stateOn s (setup u) = setupReply u .state
 stateOn s (call c) = replyTo s c .state
+
+-- How the code numbers the names; 0 for any other.
+unfoldable pub kindOf : List ℕ → ℕ
+kindOf name =
+    if sameBytes name setupName then 1
+    else if sameBytes name jobName then 2
+    else if sameBytes name pickName then 3
+    else if sameBytes name reportName then 4
+    else if sameBytes name askName then 5
+    else if sameBytes name boardName then 6
+    else 0

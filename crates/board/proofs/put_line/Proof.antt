@@ -67,23 +67,35 @@ put-health-requires : tie.Need-put-health-requires
 put-health-requires c κs = rest-fits (behind (c .before .before .before .before .before .before .before .before .put-number .ensures) (c .before .before .before .put .ensures)) (healthText _ _) (third (c .before .before .before .before .before .before .before .before .before .before .before .before))
 
 add-at-2 : tie.Need-add-at-2
-add-at-2 c = omega (arith, end-fits (behind (c .before .before .before .before .before .before .before .before .before .before .before .put-number .ensures) (c .before .before .before .before .before .before .put .ensures)) (c .before .before .put-health .ensures) (third (c .before .before .before .before .before .before .before .before .before .before .before .before .before .before .before)), c .before .before .before .before .before .before .before .before .before .before .before .before .before .before .before .good)
+add-at-2 c =
+    omega (
+      arith,
+      end-fits (behind (c .before .before .before .before .before .before .before .before .before .before .before .put-number .ensures) (c .before .before .before .before .before .before .put .ensures)) (c .before .before .put-health .ensures)
+          (third (c .before .before .before .before .before .before .before .before .before .before .before .before .before .before .before)),
+      c .before .before .before .before .before .before .before .before .before .before .before .before .before .before .before .good,
+    )
 
 slice-aggregate-put-2 : tie.Need-slice-aggregate-put-2
 slice-aggregate-put-2 c = search needs
 
 sub-put-2 : tie.Need-sub-put-2
-sub-put-2 c = start-fits (behind (behind (c .before .before .before .before .before .before .before .before .before .before .before .before .put-number .ensures) (c .before .before .before .before .before .before .before .put .ensures)) (c .before .before .before .put-health .ensures)) (third (c .before .before .before .before .before .before .before .before .before .before .before .before .before .before .before .before))
+sub-put-2 c =
+    start-fits (behind (behind (c .before .before .before .before .before .before .before .before .before .before .before .before .put-number .ensures) (c .before .before .before .before .before .before .before .put .ensures)) (c .before .before .before .put-health .ensures))
+    (third (c .before .before .before .before .before .before .before .before .before .before .before .before .before .before .before .before))
 
 part-put-start-2 : tie.Need-part-put-start-2
-part-put-start-2 c = start-fits (behind (behind (c .before .before .before .before .before .before .before .before .before .before .before .before .put-number .ensures) (c .before .before .before .before .before .before .before .put .ensures)) (c .before .before .before .put-health .ensures)) (third (c .before .before .before .before .before .before .before .before .before .before .before .before .before .before .before .before))
+part-put-start-2 c =
+    start-fits (behind (behind (c .before .before .before .before .before .before .before .before .before .before .before .before .put-number .ensures) (c .before .before .before .before .before .before .before .put .ensures)) (c .before .before .before .put-health .ensures))
+    (third (c .before .before .before .before .before .before .before .before .before .before .before .before .before .before .before .before))
 
 part-put-end-2 : tie.Need-part-put-end-2
 part-put-end-2 c = search needs
 
 put-requires-2 : tie.Need-put-requires-2
 unfolding destinationLine
-put-requires-2 c κs = rest-fits (behind (behind (c .before .before .before .before .before .before .before .before .before .before .before .before .before .put-number .ensures) (c .before .before .before .before .before .before .before .before .put .ensures)) (c .before .before .before .before .put-health .ensures)) lineEnd (c .before .before .before .before .before .before .before .before .before .before .before .before .before .before .before .before .before .pre)
+put-requires-2 c κs =
+    rest-fits (behind (behind (c .before .before .before .before .before .before .before .before .before .before .before .before .before .put-number .ensures) (c .before .before .before .before .before .before .before .before .put .ensures)) (c .before .before .before .before .put-health .ensures))
+    lineEnd (c .before .before .before .before .before .before .before .before .before .before .before .before .before .before .before .before .before .pre)
 
 add-at-3 : tie.Need-add-at-3
 unfolding destinationLine
@@ -100,7 +112,9 @@ same-length c = search needs
 
 returns : tie.Need-returns
 unfolding destinationLine
-returns c = behind (behind (behind (c .before .before .before .before .before .before .before .before .before .before .before .before .before .before .before .before .put-number .ensures) (c .before .before .before .before .before .before .before .before .before .before .before .put .ensures)) (c .before .before .before .before .before .before .before .put-health .ensures)) (c .before .before .put2 .ensures)
+returns c =
+    behind (behind (behind (c .before .before .before .before .before .before .before .before .before .before .before .before .before .before .before .before .put-number .ensures) (c .before .before .before .before .before .before .before .before .before .before .before .put .ensures)) (c .before .before .before .before .before .before .before .put-health .ensures))
+    (c .before .before .put2 .ensures)
 
 pub put-line-spec : {M : Type 1} → statement M
 put-line-spec =

@@ -56,7 +56,13 @@ put-number-requires-2 : tie.Need-put-number-requires-2
 put-number-requires-2 c κs = rest-fits (behind (c .before .before .before .before .before .before .before .before .before .put .ensures) (c .before .before .before .before .put-number .ensures)) (numbered _) (c .before .before .before .before .before .before .before .before .before .before .before .before .before .pre)
 
 add-at-2 : tie.Need-add-at-2
-add-at-2 c = omega (arith, end-fits (behind (c .before .before .before .before .before .before .before .before .before .before .before .before .put .ensures) (c .before .before .before .before .before .before .before .put-number .ensures)) (c .before .before .put-number2 .ensures) (c .before .before .before .before .before .before .before .before .before .before .before .before .before .before .before .before .pre), c .before .before .before .before .before .before .before .before .before .before .before .before .before .before .before .before .good)
+add-at-2 c =
+    omega (
+      arith,
+      end-fits (behind (c .before .before .before .before .before .before .before .before .before .before .before .before .put .ensures) (c .before .before .before .before .before .before .before .put-number .ensures)) (c .before .before .put-number2 .ensures)
+          (c .before .before .before .before .before .before .before .before .before .before .before .before .before .before .before .before .pre),
+      c .before .before .before .before .before .before .before .before .before .before .before .before .before .before .before .before .good,
+    )
 
 same-length : tie.Need-same-length
 same-length c = search needs

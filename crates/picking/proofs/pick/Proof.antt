@@ -184,10 +184,14 @@ choose-requires c κs = (
   own-pairs (state (passed (c .before))) (time (passed (c .before))) (awake (c .before)) (c .before .before .before .before .before .before .before .before .sound-with .ensures .1 .counted (not-false _ (c .before .before .before .before .before .before .before .if1 .left))),
 )
 
+abbrev at-none : tie.Then5 → tie.Else3
+at-none c = c .before .before .before .before .before .before .before
+
 returns-4 : tie.Need-returns-4
 returns-4 c =
-    with-found (state (c .before .before .before .before .before .before .before)) (time (c .before .before .before .before .before .before .before)) PickAnswer.Nothing _ (shape (c .before .before .before .before .before .before .before))
-    (pick-made (state (c .before .before .before .before .before .before .before)) (time (c .before .before .before .before .before .before .before)) _ (unrefused (c .before .before .before .before .before .before .before)) (gives-nothing (state (c .before .before .before .before .before .before .before)) (time (c .before .before .before .before .before .before .before)) (start (c .before .before .before .before .before .before .before)) _ (awake (c .before .before .before .before)) (c .before .before .choose .result) (c .before .before .choose .ensures) (not-true _ (c .if5 .taken))))
+    with-found (state (at-none c)) (time (at-none c)) PickAnswer.Nothing _ (shape (at-none c))
+    (pick-made (state (at-none c)) (time (at-none c)) _ (unrefused (at-none c))
+    (gives-nothing (state (at-none c)) (time (at-none c)) (start (at-none c)) _ (awake (c .before .before .before .before)) (c .before .before .choose .result) (c .before .before .choose .ensures) (not-true _ (c .if5 .taken))))
 
 cast-lane : tie.Need-cast-lane
 cast-lane c = search needs
@@ -275,7 +279,9 @@ returns-5 c =
     (pick-made (state (at-start (met (last c)))) (time (at-start (met (last c)))) _ (unrefused (at-start (met (last c))))
     (given (last c) _
     (hand-out-is (last c .if6 .next) (choice (met (last c)) .transport) (choice (met (last c)) .job) (choice (met (last c)) .place) (choice (met (last c)) .entry) (c .before .before .before .before .before .before .before .before .before .before .before .before .before .before .before .read .result) (c .before .next-ticket .result) _ _ _ _ _ _
-    (c .before .before .before .before .before .before .before .before .before .before .before .before .before .before .before .read .ensures) (c .before .next-ticket .ensures) (c .before .before .before .before .before .before .before .before .before .before .before .before .before .put-kind .ensures) (c .before .before .before .before .before .before .before .before .before .before .before .put-ticket .ensures) (c .before .before .before .before .before .before .before .before .before .add2 .ensures) (c .before .before .before .before .before .before .put2 .ensures) (c .before .before .before .before .one-more .ensures) (c .before .before .add3 .ensures))))
+    (c .before .before .before .before .before .before .before .before .before .before .before .before .before .before .before .read .ensures) (c .before .next-ticket .ensures) (c .before .before .before .before .before .before .before .before .before .before .before .before .before .put-kind .ensures)
+    (c .before .before .before .before .before .before .before .before .before .before .before .put-ticket .ensures) (c .before .before .before .before .before .before .before .before .before .add2 .ensures)
+    (c .before .before .before .before .before .before .put2 .ensures) (c .before .before .before .before .one-more .ensures) (c .before .before .add3 .ensures))))
 
 pub pick-spec : {M : Type 1} → statement M
 pick-spec =
