@@ -8,19 +8,18 @@ use Rattle.rules.specs.declared.State.{State}
 use Rattle.rules.specs.State.{at, isPresent}
 use Rattle.rules.specs.Sound.{sound}
 use Rattle.rules.specs.Refusals.{askRefusal}
-use Rattle.rules.specs.Calls.{refused, granted, unlessRefused, askReply}
-use Rattle.rules.proofs.Replies.{refusing-unsound}
+use Rattle.rules.specs.Calls.{ask, refused, granted, unlessRefused, replyTo, askReply}
+use Rattle.rules.proofs.Replies.{reply-unsound}
 
 module _ (s : State) (j : ℕ) where
   pub ask-unsound : sound s ≡ false → record { says = refused 1; state = s; buffer = [] } ≡ askReply s j
-  unfolding askReply askRefusal
-  ask-unsound h = refusing-unsound (sound s) _ s [] _ h
+  ask-unsound h = reply-unsound s (ask j) h
 
   pub ask-absent : sound s ≡ true → isPresent s j ≡ false → record { says = refused 11; state = s; buffer = [] } ≡ askReply s j
-  unfolding askReply askRefusal unlessRefused if_then_else_
+  unfolding replyTo askRefusal unlessRefused if_then_else_
   ask-absent h p = rw (h, p) refl
 
   pub ask-answered : (sum : ℕ) → sound s ≡ true → isPresent s j ≡ true → sum ≡ at (s .jobs .overtakers) j
       → record { says = granted (sum ∷ []); state = s; buffer = [] } ≡ askReply s j
-  unfolding askReply askRefusal unlessRefused if_then_else_
+  unfolding replyTo askRefusal unlessRefused if_then_else_
   ask-answered sum h p e = rw (h, p, e) refl

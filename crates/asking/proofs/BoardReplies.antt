@@ -10,13 +10,12 @@ use Rattle.rules.specs.declared.State.{State}
 use Rattle.rules.specs.Sound.{sound}
 use Rattle.rules.specs.Board.{textOf, boardText}
 use Rattle.rules.specs.Refusals.{boardRefusal}
-use Rattle.rules.specs.Calls.{refused, granted, unlessRefused, boardReply}
-use Rattle.rules.proofs.Replies.{refusing-unsound}
+use Rattle.rules.specs.Calls.{board, refused, granted, unlessRefused, replyTo, boardReply}
+use Rattle.rules.proofs.Replies.{reply-unsound}
 
 module _ (s : State) (buffer : List ℕ) where
   pub board-unsound : sound s ≡ false → record { says = refused 1; state = s; buffer = buffer } ≡ boardReply s buffer
-  unfolding boardReply boardRefusal
-  board-unsound h = refusing-unsound (sound s) _ s buffer _ h
+  board-unsound h = reply-unsound s (board buffer) h
 
   -- the text, over what the code reads of the state
   abbrev text : List ℕ
@@ -24,7 +23,7 @@ module _ (s : State) (buffer : List ℕ) where
 
   pub board-short : (need : ℕ) → sound s ≡ true → need ≡ length text → length buffer < need
       → record { says = refused 10; state = s; buffer = buffer } ≡ boardReply s buffer
-  unfolding boardReply boardRefusal boardText unlessRefused if_then_else_
+  unfolding replyTo boardRefusal boardText unlessRefused if_then_else_
   board-short need h e l = rw (h, lt-ltb (length buffer) (length text) (subst (λ n. length buffer < n) e l)) refl
 
   pub board-fits : (need : ℕ) → need ≡ length text → need ≤ length buffer → length text ≤ length buffer
@@ -32,5 +31,5 @@ module _ (s : State) (buffer : List ℕ) where
 
   pub board-written : (n : ℕ) (out : List ℕ) → sound s ≡ true → length text ≤ length buffer → n ≡ length text → out ≡ text ++ drop (length text) buffer
       → record { says = granted (n ∷ []); state = s; buffer = out } ≡ boardReply s buffer
-  unfolding boardReply boardRefusal boardText unlessRefused if_then_else_
+  unfolding replyTo boardRefusal boardText unlessRefused if_then_else_
   board-written n out h l e f = rw (h, le-ltb (length buffer) (length text) l, e, f) refl

@@ -101,20 +101,20 @@ written-fits vs buffer = rw (length-append vs (drop (length vs) buffer)) (omega 
 
 module _ (s : State) (now : ℕ) where
   job-fits : (t : ℕ) (dests list : List ℕ) → Fits (jobReply s now t dests list)
-  unfolding jobReply takingReply last if_then_else_
+  unfolding replyTo takingReply last if_then_else_
   job-fits t dests list =
       let w = written-fits (putOffPositions (woken s now) dests) list in
       unless-fits (jobRefusal s now t dests list) s list (takingReply (woken s now) now t dests list)
       (case-bool (eqb (nOf (woken s now) dests) 0) (λ h. rw h w) (λ h. rw h w))
 
   report-fits : (i ticket : ℕ) (o : Outcome) (list : List ℕ) → Fits (reportReply s now i ticket o list)
-  unfolding reportReply reportingReply last
+  unfolding replyTo reportingReply last
   report-fits i ticket o list =
       unless-fits (reportRefusal s now i ticket list) s list (reportingReply (reporting (woken s now) now i (destinationOf s i) o) list)
       (written-fits (reporting (woken s now) now i (destinationOf s i) o .putoff) list)
 
 board-fits : (s : State) (buffer : List ℕ) → Fits (boardReply s buffer)
-unfolding boardReply last
+unfolding replyTo last
 board-fits s buffer = unless-fits (boardRefusal s buffer) s buffer _ (written-fits (boardText s) buffer)
 
 -- Calls. Of the list that is printed, a part was lent, from its front.

@@ -11,24 +11,23 @@ use Rattle.rules.specs.Sizes.{lastSecond}
 use Rattle.rules.specs.Sound.{sound}
 use Rattle.rules.specs.Windows.{woken}
 use Rattle.rules.specs.Refusals.{badClock, pickRefusal}
-use Rattle.rules.specs.Calls.{Reply, refused, unlessRefused, pickReply, afterPick}
+use Rattle.rules.specs.Calls.{Reply, pick, refused, unlessRefused, replyTo, pickReply, afterPick}
 use Rattle.rules.specs.Answers.{pickSays}
 use Rattle.rules.specs.Gave.{FindsExactly}
 use Rattle.rules.proofs.Shape.{Shaped}
 use Rattle.rules.proofs.Found.{finds-exactly}
-use Rattle.rules.proofs.Replies.{accepting, refusing-unsound}
+use Rattle.rules.proofs.Replies.{reply-accepted, reply-unsound}
 
 module _ (s : State) (now : ℕ) where
   pub pick-unsound : sound s ≡ false → record { says = refused 1; state = s; buffer = [] } ≡ pickReply s now
-  unfolding pickReply pickRefusal
-  pick-unsound h = refusing-unsound (sound s) _ s [] _ h
+  pick-unsound h = reply-unsound s (pick now) h
 
   pub pick-early : sound s ≡ true → now < s .clock → record { says = refused 3; state = s; buffer = [] } ≡ pickReply s now
-  unfolding pickReply pickRefusal badClock unlessRefused if_then_else_
+  unfolding replyTo pickRefusal badClock unlessRefused if_then_else_
   pick-early h l = rw (h, lt-ltb now (s .clock) l) refl
 
   pub pick-late : sound s ≡ true → s .clock ≤ now → lastSecond < now → record { says = refused 3; state = s; buffer = [] } ≡ pickReply s now
-  unfolding pickReply pickRefusal badClock unlessRefused if_then_else_
+  unfolding replyTo pickRefusal badClock unlessRefused if_then_else_
   pick-late h e l = rw (h, le-ltb now (s .clock) e, lt-ltb lastSecond now l) refl
 
   pub pick-unrefused : sound s ≡ true → s .clock ≤ now → now ≤ lastSecond → pickRefusal s now ≡ 0
@@ -36,8 +35,7 @@ module _ (s : State) (now : ℕ) where
   pick-unrefused h e l = rw (h, le-ltb now (s .clock) e, le-ltb lastSecond now l) refl
 
   pub pick-made : (x : Reply) → pickRefusal s now ≡ 0 → x ≡ afterPick (woken s now) now → x ≡ pickReply s now
-  unfolding pickReply
-  pick-made x e h = accepting (pickRefusal s now) s [] x _ e h
+  pick-made x e h = reply-accepted s (pick now) x e h
 
   -- from the reply, what its case tells
   pub with-found : (a : PickAnswer) (out : State) → Shaped s → record { says = pickSays a; state = out; buffer = [] } ≡ pickReply s now

@@ -12,8 +12,8 @@ use Rattle.rules.specs.Sound.{sound}
 use Rattle.rules.specs.Windows.{woken}
 use Rattle.rules.specs.Reporting.{reporting}
 use Rattle.rules.specs.Refusals.{reportRefusal}
-use Rattle.rules.specs.Calls.{Reply, refused, reportingReply, reportReply}
-use Rattle.rules.proofs.Replies.{refusing, accepting, refusing-unsound}
+use Rattle.rules.specs.Calls.{Reply, report, refused, reportingReply, reportReply}
+use Rattle.rules.proofs.Replies.{reply-refused, reply-accepted, reply-unsound}
 use Rattle.rules.proofs.Accepted.{report-accepted}
 
 -- What a report needs: each test of its refusals has passed.
@@ -27,13 +27,11 @@ pub record CanReport (s : State) (clock e places : ℕ) : Type 0 where
 
 module _ (s : State) (now e ticket : ℕ) (outcome : Outcome) (list : List ℕ) where
   pub report-unsound : sound s ≡ false → record { says = refused 1; state = s; buffer = list } ≡ reportReply s now e ticket outcome list
-  unfolding reportReply reportRefusal
-  report-unsound h = refusing-unsound (sound s) _ s list _ h
+  report-unsound h = reply-unsound s (report now e ticket outcome list) h
 
   pub report-refused : (k : ℕ) → k ≡ reportRefusal s now e ticket list → (k ≡ 0 → ⊥)
       → record { says = refused k; state = s; buffer = list } ≡ reportReply s now e ticket outcome list
-  unfolding reportReply
-  report-refused k q h = refusing k (reportRefusal s now e ticket list) s list _ q (λ z. h (q ∙ z))
+  report-refused k q h = reply-refused s (report now e ticket outcome list) k q h
 
   pub report-can : reportRefusal s now e ticket list ≡ 0 → CanReport s now e (length list)
   report-can q =
@@ -42,5 +40,4 @@ module _ (s : State) (now e ticket : ℕ) (outcome : Outcome) (list : List ℕ) 
 
   pub report-made : (x : Reply) → reportRefusal s now e ticket list ≡ 0
       → x ≡ reportingReply (reporting (woken s now) now e (destinationOf s e) outcome) list → x ≡ reportReply s now e ticket outcome list
-  unfolding reportReply
-  report-made x q h = accepting (reportRefusal s now e ticket list) s list x _ q h
+  report-made x q h = reply-accepted s (report now e ticket outcome list) x q h

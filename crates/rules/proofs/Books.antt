@@ -18,7 +18,7 @@ use Rattle.laws.proofs.All.{below-suc}
 use Rattle.laws.proofs.Newest.{newest-is, newest-same, newest-new, newest-old, getD-old, getD-new, length-new, set-field}
 use Rattle.rules.specs.declared.State.{State}
 use Rattle.rules.specs.State.{isPresent, waitingOf}
-use Rattle.rules.specs.Ledger.{Account, noAccount, accountAt, accountOf, booked, bookedPutOff, stillWaiting}
+use Rattle.rules.specs.Ledger.{Account, noAccount, accountAt, accountOf, booked, stillWaiting}
 
 -- account i is the one of a present job
 unfoldable pub isOpen : State → List Account → ℕ → Bool

@@ -19,7 +19,7 @@ use Rattle.rules.specs.Sound.{sound}
 use Rattle.rules.specs.SoundFacts.{Sound}
 use Rattle.rules.specs.Windows.{woken}
 use Rattle.rules.specs.Refusals.{askRefusal}
-use Rattle.rules.specs.Calls.{Call, ask, Says, Reply, granted, unlessRefused, askReply, replyTo}
+use Rattle.rules.specs.Calls.{Call, ask, Says, Reply, granted, unlessRefused, replyTo}
 use Rattle.rules.specs.Tally.{Row, Tally, rowAt, rowOf, linkedRow}
 use Rattle.rules.specs.Run.{stateAfter, tallyOf}
 use Rattle.rules.specs.Demand3.{Ceilings, Demand3, Companions, Demand3Holds, costFor}
@@ -28,7 +28,7 @@ use Rattle.rules.proofs.Soundness.{sound-of}
 use Rattle.rules.proofs.EntryTests.{used-not-free, used-job}
 use Rattle.rules.proofs.KeptRanges.{cost-range}
 use Rattle.rules.proofs.EntryFacts.{present-below}
-use Rattle.rules.proofs.Refused.{refusalOf, refusal-answered, sound-not-1}
+use Rattle.rules.proofs.Refused.{refusal-answered, sound-not-1}
 use Rattle.rules.proofs.Sim.{costIn, RowIs, JobIs, Sim}
 use Rattle.rules.proofs.SimRows.{row-inside}
 use Rattle.rules.proofs.Picked.{finds-some}
@@ -59,7 +59,7 @@ ceilings-at {u} {s} {y} r i l =
 
 -- asking about a present job of a sound state is accepted
 ask-accepted : (s : State) (j : ℕ) → sound s ≡ true → isPresent s j ≡ true → replyTo s (ask j) .says ≡ granted (at (s .jobs .overtakers) j ∷ [])
-unfolding replyTo askReply unlessRefused askRefusal if_then_else_
+unfolding replyTo unlessRefused askRefusal if_then_else_
 ask-accepted s j h p = rw (h, p) refl
 
 asking-at : {u : Setup} {s : State} {y : Tally} → Reached u s y → (j : ℕ) → isPresent s j ≡ true

@@ -2,7 +2,7 @@
 use Prim.Native.Nat.{ℕ}
 use mathlib.Core.Path.{_≡_, refl}
 use mathlib.Core.Bool.{true, false}
-use mathlib.Core.List.{List, [], _∷_}
+use mathlib.Core.List.{List, [], _∷_, foldl}
 use lib.ListN.{take}
 use lib.Dec.{lit≤, le→leb}
 use lib.IntN.{pos}
@@ -13,8 +13,7 @@ use Rattle.rules.specs.State.{at, waitingOf}
 use Rattle.rules.specs.Preemption.{hasCredit, beats, paysFor, longEnough}
 use Rattle.rules.specs.Pick.{pickedJobs, nobody, preemption}
 use Rattle.rules.specs.Calls.{took, picked}
-use Rattle.rules.specs.Tally.{noTally}
-use Rattle.rules.specs.Run.{talliedAll}
+use Rattle.rules.specs.Tally.{tallied, noTally}
 use Rattle.rules.specs.Demand3.{Ceilings}
 use Rattle.rules.specs.Examples.{perWindow, usual, given, expected, Exact}
 use Rattle.rules.specs.Tallies.{row}
@@ -59,7 +58,7 @@ turn-edge g x rest e = rw e refl
 -- The tally, fed with decisions: job 1 preempts job 0 with 4 waiting, then job 3 preempts job 1 with 2, which count for job 0 too. Job 2 is on
 -- transport 1. The third pick of transport 0 passes one job over, the fourth two.
 pub tally-rows :
-    talliedAll noTally
+    foldl tallied noTally
     (took 0 0 20
     ∷ took 1 0 4
     ∷ took 2 1 3

@@ -13,7 +13,7 @@ use Rattle.rules.specs.Sizes.{maxEntries}
 use Rattle.rules.specs.Windows.{woken}
 use Rattle.rules.specs.Picking.{eligible, finds}
 use Rattle.rules.specs.Refusals.{pickRefusal}
-use Rattle.rules.specs.Calls.{Says, Reply, unlessRefused, pickingReply, afterPick, pickReply}
+use Rattle.rules.specs.Calls.{Says, Reply, Call, unlessRefused, pickingReply, afterPick, replyTo, pickReply}
 use Rattle.rules.specs.Answers.{pickSays}
 use Rattle.rules.specs.Gave.{FindsExactly}
 use Rattle.rules.proofs.Shape.{Shaped}
@@ -21,7 +21,7 @@ use Rattle.rules.proofs.Soundness.{sound-facts}
 use Rattle.rules.proofs.KeptWaking.{kept-woken}
 use Rattle.rules.proofs.Picked.{finds-some}
 use Rattle.rules.proofs.Accepted.{pick-accepted}
-use Rattle.rules.proofs.Refused.{picking-accepted}
+use Rattle.rules.proofs.Refused.{refusal-answered}
 
 module _ (s : State) (now : ℕ) (shape : Shaped s) where
   by-case : (b : Bool) → finds (woken s now) ≡ b → length (afterPick (woken s now) now .says .values) ≡ (if finds (woken s now) then 4 else 1)
@@ -31,7 +31,7 @@ module _ (s : State) (now : ℕ) (shape : Shaped s) where
 
   -- an accepted pick of a sound state has four values where an entry is eligible, one where none is
   values : pickRefusal s now ≡ 0 → length (pickReply s now .says .values) ≡ (if anyTo (eligible (woken s now)) maxEntries then 4 else 1)
-  unfolding pickReply unlessRefused
+  unfolding replyTo unlessRefused
   values e =
       let a = pick-accepted s now e in
       let kept = kept-woken s now shape (sound-facts s (a .whole)) (a .clock .later) in
@@ -55,8 +55,8 @@ module _ (s : State) (now : ℕ) (shape : Shaped s) where
   pub finds-exactly : (a : PickAnswer) → pickSays a ≡ pickReply s now .says → FindsExactly s now a
   finds-exactly (PickAnswer.Refused k) h = λ e. some _ (ap (λ x. length (x .values)) h ∙ values e)
   finds-exactly (PickAnswer.Picked j e ticket passed) h =
-      let accepted = sym (ap (λ x. x .refusal) h ∙ picking-accepted s now) in
+      let accepted = sym (ap (λ x. x .refusal) h ∙ refusal-answered s (Call.pick now)) in
       (accepted, four _ (ap (λ x. length (x .values)) h ∙ values accepted))
   finds-exactly PickAnswer.Nothing h =
-      let accepted = sym (ap (λ x. x .refusal) h ∙ picking-accepted s now) in
+      let accepted = sym (ap (λ x. x .refusal) h ∙ refusal-answered s (Call.pick now)) in
       (accepted, one _ (ap (λ x. length (x .values)) h ∙ values accepted))

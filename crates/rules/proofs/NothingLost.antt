@@ -3,7 +3,7 @@ use Prim.Native.Nat.{ℕ, zero, suc, _+_, _≤_, _<_}
 use mathlib.Core.Path.{_≡_, refl, sym, _∙_, ap, subst}
 use mathlib.Core.Logic.{_≢_}
 use mathlib.Core.Bool.{Bool, true, false, _&&_}
-use mathlib.Core.List.{List, [], _∷_, map}
+use mathlib.Core.List.{List, [], _∷_, map, foldl}
 use native.Mathlib.Decide.{ℕ-discrete}
 use native.Mathlib.Nat.{suc-inj}
 use native.Mathlib.Omega.{arith}
@@ -18,6 +18,7 @@ use Rattle.laws.proofs.Sequence.{times-cons, times-single}
 use Rattle.rules.specs.declared.Setup.{Setup}
 use Rattle.rules.specs.declared.State.{State}
 use Rattle.rules.specs.declared.Outcome.{Outcome}
+use Rattle.rules.specs.Sizes.{maxEntries}
 use Rattle.rules.specs.State.{at, isPresent, isBusy, jobOf, destinationOf, waitingOf, waitsOf}
 use Rattle.rules.specs.Setup.{setupInRange, freshState}
 use Rattle.rules.specs.SoundFacts.{Sound}
@@ -27,13 +28,12 @@ use Rattle.rules.specs.Picking.{finds, passedOver, nextPlace, nextEntry}
 use Rattle.rules.specs.Preemption.{preempting}
 use Rattle.rules.specs.Pick.{Picked, nobody, preemption, handedOut, pickFrom, picking}
 use Rattle.rules.specs.Reporting.{reporting}
-use Rattle.rules.specs.Calls.{Decision, nothing, took, picked, putOff, Call, pickingDecision, replyTo, decisionOn}
-use Rattle.rules.specs.Tally.{Tally, noTally, tallied}
-use Rattle.rules.specs.Run.{stateFrom, stateAfter, decisionsFrom}
-use Rattle.rules.specs.Ledger.{Account, noAccount, accountAt, accountOf, booked, bookedPutOff, entered, enteredAll, accountsOf, stillWaiting}
+use Rattle.rules.specs.Calls.{took, putOff, Call, pickingDecision}
+use Rattle.rules.specs.Run.{stateAfter}
+use Rattle.rules.specs.Ledger.{Account, noAccount, accountAt, accountOf, booked, entered, accountsOf, stillWaiting}
 use Rattle.rules.proofs.Shape.{Shaped}
 use Rattle.rules.proofs.EntryTests.{absent-waiting}
-use Rattle.rules.proofs.KeptWaking.{kept-woken, woken-waits}
+use Rattle.rules.proofs.KeptWaking.{woken-waits}
 use Rattle.rules.proofs.Taken.{Passed, fits-of, taken-others, taken-new}
 use Rattle.rules.proofs.TakenEntries.{taken-waiting-new, taken-waiting-other}
 use Rattle.rules.proofs.Preempted.{preempting-waits, preempting-eligible}
@@ -41,10 +41,10 @@ use Rattle.rules.proofs.KeptPreempting.{kept-preempting}
 use Rattle.rules.proofs.HandedOut.{CanHandOut, handed-waits-own, handed-waits-other}
 use Rattle.rules.proofs.KeptPicking.{next-can, picking-cases}
 use Rattle.rules.proofs.ReportedFacts.{reportedBy, diedBy, reported-waiting, reported-was-present, left-waiting, reported-putoff, putoff-times}
-use Rattle.rules.proofs.Accepted.{GoodClock}
-use Rattle.rules.proofs.CallCases.{call-cases}
+use Rattle.rules.proofs.RangeFacts.{in-range-facts}
+use Rattle.rules.proofs.KeptFresh.{kept-fresh}
+use Rattle.rules.proofs.CallCases.{Steps, calls-keep}
 use Rattle.rules.proofs.SimFresh.{none-present}
-use Rattle.rules.proofs.Reached.{Reached, reached-next, reached-start}
 use Rattle.rules.proofs.Books.{Books, isOpen, no-books, open-waits, closed-waits, open-of, open-is, books-same, books-taken, booked-length, booked-job, booked-taken}
 use Rattle.rules.proofs.Books.{booked-here, booked-there, booked-account, books-picked}
 
@@ -131,8 +131,8 @@ and-then {l} {m} {n} j jobs p q =
     sum-up true x y z a c d e f g = unfold if_then_else_ in omega arith
     sum-up false x y z a c d e f g = unfold if_then_else_ in omega arith
 
-put-off-from : (jobs : List ℕ) (l : List Account) → PutOffFrom l (bookedPutOff jobs l) jobs
-unfolding bookedPutOff
+put-off-from : (jobs : List ℕ) (l : List Account) → PutOffFrom l (foldl entered l (map putOff jobs)) jobs
+unfolding entered
 put-off-from [] l =
     record {
       size = refl;
@@ -153,7 +153,7 @@ module _ {s : State} (t : State) {l : List Account} (b : Books s l) (jobs : List
     (waits : (j : ℕ) → waitingOf s j ≡ timesIn j jobs + waitingOf t j) (left : (j : ℕ) → isPresent s j ≡ true → isPresent t j ≡ false → waitingOf t j ≡ 0)
     (absent : (j : ℕ) → isPresent s j ≡ false → waitingOf s j ≡ 0) where
   abbrev m : List Account
-  m = bookedPutOff jobs l
+  m = foldl entered l (map putOff jobs)
 
   still-job : (newest here there : Bool) (j : ℕ) → isPresent s j ≡ here → isPresent t j ≡ there
       → (if here && newest then waitingOf s j else 0) ≡ (if newest then timesIn j jobs else 0) + (if there && newest then waitingOf t j else 0)
@@ -167,7 +167,7 @@ module _ {s : State} (t : State) {l : List Account} (b : Books s l) (jobs : List
   still-job true false true j p q = true-not-false (was j q) p
   still-job true false false j p q = omega (arith, waits j, absent j p)
 
-  pub books-put-off : Books t (bookedPutOff jobs l)
+  pub books-put-off : Books t m
   books-put-off =
       let o = put-off-from jobs l in
       record {
@@ -181,86 +181,77 @@ module _ {s : State} (t : State) {l : List Account} (b : Books s l) (jobs : List
         entered = λ j h. rw (o .account j) (b .entered j (was j h));
       }
 
--- The books through each call.
+-- The books through each step.
 
-module _ {u : Setup} {s : State} {y : Tally} (r : Reached u s y) {l : List Account} (b : Books s l) where
-  awake : (now : ℕ) → GoodClock s now → Shaped (woken s now) × Sound (woken s now)
-  awake now c = kept-woken s now (r .shaped) (r .sound) (c .later)
+books-woken : (s : State) {l : List Account} → Books s l → (now : ℕ) → Books (woken s now) l
+books-woken s b now = books-same (woken s now) b (λ j. unfold woken in refl) (woken-waits s now)
 
-  books-woken : (now : ℕ) → Books (woken s now) l
-  books-woken now = books-same (woken s now) b (λ j. unfold woken in refl) (woken-waits s now)
+books-taking : (w : State) {l : List Account} → Shaped w → Sound w → Books w l → (t : ℕ) (dests : List ℕ) → Passed w t dests
+    → Books (taken w (newNumber w) t (w .clock) (keptOf w dests)) (entered l (took (newNumber w) t (nOf w dests)))
+unfolding entered nOf
+books-taking w shaped sound b t dests p =
+    let j : ℕ = newNumber w in
+    let now : ℕ = w .clock in
+    let kept : List ℕ = keptOf w dests in
+    let fits = fits-of w t dests p in
+    books-taken (taken w j t now kept) b j (length kept) (fits .absent) (taken-new w j t now kept shaped sound fits .present)
+    (taken-waiting-new w j t now kept shaped sound fits) (λ k ne. taken-others w j t now kept shaped sound fits k ne .present)
+    (taken-waiting-other w j t now kept shaped sound fits)
 
-  takes : (now t : ℕ) (dests : List ℕ) → GoodClock s now → Passed (woken s now) t dests
-      → Books (taken (woken s now) (newNumber (woken s now)) t now (keptOf (woken s now) dests)) (entered l (took (newNumber (woken s now)) t (nOf (woken s now) dests)))
-  unfolding entered nOf
-  takes now t dests c p =
-      let w : State = woken s now in
-      let j : ℕ = newNumber w in
-      let kept : List ℕ = keptOf w dests in
-      let (shaped, whole) = awake now c in
-      let fits = fits-of w t dests p in
-      books-taken (taken w j t now kept) (books-woken now) j (length kept) (fits .absent) (taken-new w j t now kept shaped whole fits .present)
-      (taken-waiting-new w j t now kept shaped whole fits) (λ k ne. taken-others w j t now kept shaped whole fits k ne .present)
-      (taken-waiting-other w j t now kept shaped whole fits)
+-- an entry of a present job is handed out
+hands-out : (w : State) {l : List Account} → Books w l → Shaped w → (t j place e : ℕ) → CanHandOut w t j place e → isPresent w j ≡ true
+    → Books (handedOut w t j place e) (booked (accountOf l j) 1 0 l)
+hands-out w {l} b shaped t j place e can h = go (accountOf l j) refl
+  where
+    go : (k : ℕ) → accountOf l j ≡ k → Books (handedOut w t j place e) (booked k 1 0 l)
+    go zero q = absurd (none (b .entered j h))
+      where
+        none : 1 ≤ accountOf l j → ⊥
+        none o = omega arith
+    go (suc i) q =
+        books-picked (handedOut w t j place e) b j i h q (λ k. unfold handedOut in refl) (handed-waits-own w t j place e shaped can)
+        (handed-waits-other w t j place e shaped can)
 
-  -- an entry of a present job is handed out
-  hands-out : (w : State) → Books w l → Shaped w → (t j place e : ℕ) → CanHandOut w t j place e → isPresent w j ≡ true
-      → Books (handedOut w t j place e) (booked (accountOf l j) 1 0 l)
-  hands-out w bw shaped t j place e can h = go (accountOf l j) refl
-    where
-      go : (k : ℕ) → accountOf l j ≡ k → Books (handedOut w t j place e) (booked k 1 0 l)
-      go zero q = absurd (none (bw .entered j h))
-        where
-          none : 1 ≤ accountOf l j → ⊥
-          none o = omega arith
-      go (suc i) q =
-          books-picked (handedOut w t j place e) bw j i h q (λ k. unfold handedOut in refl) (handed-waits-own w t j place e shaped can)
-          (handed-waits-other w t j place e shaped can)
+books-picking : (w : State) {l : List Account} → Shaped w → Sound w → Books w l → (now : ℕ) → finds w ≡ true
+    → Books (picking w now .state) (entered l (pickingDecision (picking w now .found)))
+books-picking w {l} shaped sound b now f =
+    picking-cases (λ p. Books (p .state) (entered l (pickingDecision (p .found)))) w now shaped sound f
+    (λ t x et ex lane cur none.
+    unfold entered pickFrom in
+    hands-out w b shaped t x (nextPlace w x) (nextEntry w x) (next-can w t x shaped sound (cur .present) (cur .transport) (cur .eligible)) (cur .present))
+    (λ t x z et ex lane cur some p.
+    unfold entered pickFrom in
+    let moved : State = preempting w t z x (waitingOf w z) in
+    let kept = kept-preempting w now t x z shaped sound (lane .below) cur p in
+    let there : isPresent moved z ≡ true = unfold preempting in p .present in
+    let home : at (moved .jobs .transport) z ≡ t = unfold preempting in p .transport in
+    hands-out moved (books-same moved b (λ j. unfold preempting in refl) (preempting-waits w t z x (waitingOf w z))) (kept .0) t z (nextPlace moved z)
+    (nextEntry moved z) (next-can moved t z (kept .0) (kept .1) there home (preempting-eligible w t z x (waitingOf w z) z ∙ p .eligible)) there)
 
-  picks : (now : ℕ) → GoodClock s now → finds (woken s now) ≡ true
-      → Books (picking (woken s now) now .state) (entered l (pickingDecision (picking (woken s now) now .found)))
-  picks now c f =
-      let w : State = woken s now in
-      let (shaped, whole) = awake now c in
-      picking-cases (λ p. Books (p .state) (entered l (pickingDecision (p .found)))) w now shaped whole f
-      (λ t x et ex lane cur none.
-      unfold entered pickingDecision pickFrom in
-      hands-out w (books-woken now) shaped t x (nextPlace w x) (nextEntry w x) (next-can w t x shaped whole (cur .present) (cur .transport) (cur .eligible)) (cur .present))
-      (λ t x z et ex lane cur some p.
-      unfold entered pickingDecision pickFrom in
-      let moved : State = preempting w t z x (waitingOf w z) in
-      let kept = kept-preempting w now t x z shaped whole (lane .below) cur p in
-      let there : isPresent moved z ≡ true = unfold preempting in p .present in
-      let home : at (moved .jobs .transport) z ≡ t = unfold preempting in p .transport in
-      hands-out moved (books-same moved (books-woken now) (λ j. unfold preempting in refl) (preempting-waits w t z x (waitingOf w z))) (kept .0) t z (nextPlace moved z)
-      (nextEntry moved z) (next-can moved t z (kept .0) (kept .1) there home (preempting-eligible w t z x (waitingOf w z) z ∙ p .eligible)) there)
+books-reporting : (w : State) {l : List Account} → Shaped w → Sound w → Books w l → (now e : ℕ) (outcome : Outcome) → e < maxEntries → isBusy w e ≡ true
+    → Books (reporting w now e (destinationOf w e) outcome .state)
+    (foldl entered l (map putOff (map (jobOf w) (reporting w now e (destinationOf w e) outcome .putoff))))
+books-reporting w shaped sound b now e outcome k busy =
+    books-put-off (reportedBy w now e outcome) b (map (jobOf w) (reporting w now e (destinationOf w e) outcome .putoff))
+    (reported-was-present w now e outcome shaped sound k busy)
+    (λ j.
+    reported-waiting w now e outcome shaped sound k busy j
+    ∙ ap (λ n. n + waitingOf (reportedBy w now e outcome) j)
+    (sym (ap (λ es. timesIn j (map (jobOf w) es)) (reported-putoff w now e outcome) ∙ putoff-times w (diedBy w now e outcome) (destinationOf w e) j)))
+    (left-waiting w now e outcome shaped sound k busy) (λ j h. absent-waiting w sound j h)
 
-  reports : (now e : ℕ) (outcome : Outcome) → GoodClock s now → e < 512 → isBusy s e ≡ true
-      → Books (reporting (woken s now) now e (destinationOf s e) outcome .state)
-      (entered l (putOff (map (jobOf s) (reporting (woken s now) now e (destinationOf s e) outcome .putoff))))
-  unfolding entered woken
-  reports now e outcome c k busy =
-      let w : State = woken s now in
-      let (shaped, whole) = awake now c in
-      books-put-off (reportedBy w now e outcome) (books-woken now) (map (jobOf w) (reporting w now e (destinationOf w e) outcome .putoff))
-      (reported-was-present w now e outcome shaped whole k busy)
-      (λ j.
-      reported-waiting w now e outcome shaped whole k busy j
-      ∙ ap (λ n. n + waitingOf (reportedBy w now e outcome) j)
-      (sym (ap (λ es. timesIn j (map (jobOf w) es)) (reported-putoff w now e outcome) ∙ putoff-times w (diedBy w now e outcome) (destinationOf w e) j)))
-      (left-waiting w now e outcome shaped whole k busy) (λ j h. absent-waiting w whole j h)
-
-  books-next : (call : Call) → Books (replyTo s call .state) (entered l (decisionOn s call))
-  books-next =
-      call-cases (λ s d. Books s (entered l d)) s (unfold entered in b) (λ now c. unfold entered in books-woken now) takes picks reports
-
-books-from : {u : Setup} (s : State) (y : Tally) (l : List Account) → Reached u s y → Books s l → (calls : List Call)
-    → Books (stateFrom s calls) (enteredAll l (decisionsFrom s calls))
-unfolding stateFrom enteredAll decisionsFrom
-books-from s y l r b [] = b
-books-from s y l r b (call ∷ calls) =
-    books-from (replyTo s call .state) (tallied y (decisionOn s call)) (entered l (decisionOn s call)) (reached-next r call) (books-next r b call) calls
+books-steps : Steps entered Books
+books-steps =
+    record {
+      wakes = λ s l shaped sound b now. books-woken s b now;
+      takes = λ w l shaped sound b t dests p. books-taking w shaped sound b t dests p;
+      picks = λ w l shaped sound b f. books-picking w shaped sound b (w .clock) f;
+      reports = λ w l shaped sound b e outcome k busy. books-reporting w shaped sound b (w .clock) e outcome k busy;
+    }
 
 pub nothing-lost : (u : Setup) → setupInRange u ≡ true → (calls : List Call) → Books (stateAfter u calls) (accountsOf u calls)
 unfolding stateAfter accountsOf
-nothing-lost u h calls = books-from (freshState u) noTally [] (reached-start u h) (no-books (freshState u) (none-present u)) calls
+nothing-lost u h calls =
+    let kept = kept-fresh u (in-range-facts u h) in
+    calls-keep books-steps (freshState u) []
+    (record { shaped = kept .0; sound = kept .1; said = no-books (freshState u) (none-present u) }) calls .said

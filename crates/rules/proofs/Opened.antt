@@ -16,10 +16,10 @@ use Rattle.rules.specs.Preemption.{credit, hasCredit, owned, affordable,
 use Rattle.rules.specs.Pick.{handedOut, pickFrom, pickWith, pickOn, picking}
 use Rattle.rules.specs.Reporting.{reportedHealth, dies, isPutOff, putOffEntries, putOffOf, kindAfter, settled, stays, parentAfter, departed, reportedAt, reporting}
 use Rattle.rules.specs.Refusals.{badClock, isDestinationOn, lacksNumber, lacksPlaces, isBusyWith, setupRefusal, jobRefusal, pickRefusal, reportRefusal}
-use Rattle.rules.specs.Calls.{unlessRefused, setupReply, takingReply, jobReply, pickingReply, afterPick, pickReply, reportingReply, reportReply, replyTo}
-use Rattle.rules.specs.Calls.{decidedUnless, takingDecision, jobDecision, pickingDecision, pickDecision, reportDecision, decisionOn}
+use Rattle.rules.specs.Calls.{unlessRefused, setupReply, takingReply, pickingReply, afterPick, reportingReply, replyTo}
+use Rattle.rules.specs.Calls.{takingDecisions, pickDecisions, decidedUnless, decisionsOn}
 use Rattle.rules.specs.Tally.{noTally, rowOf, countsOn, newRow, withJob, overtakenBy, naming, noting, overtaken, withPreemption, preemptedRows, withPickAt, withPick, tallied}
-use Rattle.rules.specs.Run.{stateFrom, decisionsFrom, talliedAll, tallyOf}
+use Rattle.rules.specs.Run.{stateFrom, decisionsFrom, tallyOf}
 use Rattle.rules.specs.Examples.{shown, windowShown, windowsFailing, succeeded, served, exactAt}
 
 unfoldable pub ranges : Unit {0}
@@ -67,11 +67,11 @@ unfolding badClock isDestinationOn lacksNumber lacksPlaces isBusyWith setupRefus
 refusals = tt
 
 unfoldable pub replies : Unit {0}
-unfolding unlessRefused setupReply takingReply jobReply pickingReply afterPick pickReply reportingReply reportReply replyTo
+unfolding unlessRefused setupReply takingReply pickingReply afterPick reportingReply replyTo
 replies = tt
 
 unfoldable pub decisions : Unit {0}
-unfolding decidedUnless takingDecision jobDecision pickingDecision pickDecision reportDecision decisionOn
+unfolding takingDecisions pickDecisions decidedUnless decisionsOn
 decisions = tt
 
 unfoldable pub tallies : Unit {0}
@@ -79,7 +79,7 @@ unfolding noTally rowOf countsOn newRow withJob overtakenBy naming noting overta
 tallies = tt
 
 unfoldable pub runs : Unit {0}
-unfolding stateFrom decisionsFrom talliedAll tallyOf
+unfolding stateFrom decisionsFrom tallyOf
 runs = tt
 
 unfoldable pub shows : Unit {0}

@@ -1,4 +1,4 @@
--- What a call gives back where it is refused, and where it is not.
+-- What a call gives back where it is refused, and where it is not: said once for all calls.
 use Prim.Native.Nat.{ℕ, zero, suc}
 use mathlib.Core.Path.{_≡_, refl, sym, _∙_, ap}
 use mathlib.Core.Bool.{Bool, true, false, not}
@@ -8,30 +8,45 @@ use Rattle.laws.specs.Choice.{if_then_else_}
 use Rattle.rules.specs.declared.Setup.{Setup}
 use Rattle.rules.specs.declared.State.{State}
 use Rattle.rules.specs.Setup.{setupInRange, freshState}
-use Rattle.rules.specs.Refusals.{setupRefusal}
-use Rattle.rules.specs.Calls.{Reply, refused, unlessRefused, setupReply}
+use Rattle.rules.specs.Sound.{sound}
+use Rattle.rules.specs.Refusals.{setupRefusal, jobRefusal, pickRefusal, reportRefusal, askRefusal, boardRefusal}
+use Rattle.rules.specs.Calls.{Reply, Call, lentTo, refusalOf, accepted, refused, unlessRefused, setupReply, replyTo}
 
-pub refusing : (k n : ℕ) (s : State) (buffer : List ℕ) (r : Reply) → k ≡ n → (n ≡ 0 → ⊥)
+refusing : (k n : ℕ) (s : State) (buffer : List ℕ) (r : Reply) → k ≡ n → (k ≡ 0 → ⊥)
     → record { says = refused k; state = s; buffer = buffer } ≡ unlessRefused n s buffer r
 unfolding unlessRefused
-refusing k zero s buffer r e h = absurd (h refl)
+refusing k zero s buffer r e h = absurd (h e)
 refusing k (suc n) s buffer r e h = ap (λ k. record { says = refused k; state = s; buffer = buffer }) e
 
-pub accepting : (n : ℕ) (s : State) (buffer : List ℕ) (x r : Reply) → n ≡ 0 → x ≡ r → x ≡ unlessRefused n s buffer r
+accepting : (n : ℕ) (s : State) (buffer : List ℕ) (x r : Reply) → n ≡ 0 → x ≡ r → x ≡ unlessRefused n s buffer r
 unfolding unlessRefused
 accepting zero s buffer x r e h = h
 accepting (suc n) s buffer x r e h = absurd (suc-ne-zero n e)
 
--- the first test of a call
+-- the first test of every call
 first-test : (b : Bool) (k : ℕ) → b ≡ false → (if not b then 1 else k) ≡ 1
 unfolding if_then_else_
 first-test b k e = rw e
 
-pub refusing-unsound : (b : Bool) (k : ℕ) (s : State) (buffer : List ℕ) (r : Reply) → b ≡ false
-    → record { says = refused 1; state = s; buffer = buffer } ≡ unlessRefused (if not b then 1 else k) s buffer r
-refusing-unsound b k s buffer r h =
-    let e = first-test b k h in
-    refusing 1 (if not b then 1 else k) s buffer r (sym e) (λ z. suc-ne-zero 0 (sym e ∙ z))
+refusal-unsound : (s : State) (call : Call) → sound s ≡ false → refusalOf s call ≡ 1
+unfolding jobRefusal pickRefusal reportRefusal askRefusal boardRefusal
+refusal-unsound s (Call.job now t dests list) h = first-test (sound s) _ h
+refusal-unsound s (Call.pick now) h = first-test (sound s) _ h
+refusal-unsound s (Call.report now e ticket outcome list) h = first-test (sound s) _ h
+refusal-unsound s (Call.ask j) h = first-test (sound s) _ h
+refusal-unsound s (Call.board buffer) h = first-test (sound s) _ h
+
+module _ (s : State) (call : Call) where
+  pub reply-refused : (k : ℕ) → k ≡ refusalOf s call → (k ≡ 0 → ⊥) → record { says = refused k; state = s; buffer = lentTo call } ≡ replyTo s call
+  unfolding replyTo
+  reply-refused k e h = refusing k (refusalOf s call) s (lentTo call) (accepted s call) e h
+
+  pub reply-unsound : sound s ≡ false → record { says = refused 1; state = s; buffer = lentTo call } ≡ replyTo s call
+  reply-unsound h = reply-refused 1 (sym (refusal-unsound s call h)) (suc-ne-zero 0)
+
+  pub reply-accepted : (x : Reply) → refusalOf s call ≡ 0 → x ≡ accepted s call → x ≡ replyTo s call
+  unfolding replyTo
+  reply-accepted x e h = accepting (refusalOf s call) s (lentTo call) x (accepted s call) e h
 
 -- an accepted set-up starts from its fresh state
 pub start-is : (u : Setup) → setupInRange u ≡ true → setupReply u .state ≡ freshState u

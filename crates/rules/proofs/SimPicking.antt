@@ -128,7 +128,7 @@ module _ {u : Setup} {w : State} {y : Tally} {g : Columns} (m : Sim u w y g) (sh
 
     sim-current : Sim u (pickFrom w t b (passedOver w t b) nobody .state) (tallied y (pickingDecision (pickFrom w t b (passedOver w t b) nobody .found)))
         (pick g bi (passedOver w t b) (wentPast w (y .rows) t b))
-    unfolding pickFrom tallied pickingDecision withPick preemptedRows
+    unfolding pickFrom tallied withPick preemptedRows
     sim-current =
         rw eb
         (sim-handed-out m shaped t b (nextPlace w b) (nextEntry w b) bi (next-can w t b shaped sound (cur .present) (cur .transport) (cur .eligible))
@@ -208,7 +208,7 @@ module _ {u : Setup} {w : State} {y : Tally} {g : Columns} (m : Sim u w y g) (sh
     sim-preemptor : Sim u (pickFrom moved t x (passedOver w t b) (preemption x b k) .state)
         (tallied y (pickingDecision (pickFrom moved t x (passedOver w t b) (preemption x b k) .found)))
         (pick (preempt g xi bi k) xi (passedOver w t b) (wentPast w (y .rows) t b))
-    unfolding pickFrom tallied pickingDecision withPick preemptedRows
+    unfolding pickFrom tallied withPick preemptedRows
     sim-preemptor =
         rw (ex, eb)
         (unfold withPreemption in

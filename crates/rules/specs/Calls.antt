@@ -31,17 +31,6 @@ pub record Reply : Type 0 where
   -- what the lent buffer holds at the end; nothing where none is lent
   pub buffer : List ℕ
 
--- what the rules decided: what the tally is fed
-pub data Decision : Type 0 where
-  -- refused, or nothing that counts
-  nothing : Decision
-  -- the job taken, its transport and its n
-  took : ℕ → ℕ → ℕ → Decision
-  -- the job picked, the number passed over, who preempted whom with how many waiting
-  picked : ℕ → ℕ → Preemption → Decision
-  -- the jobs of the entries that a report put off, one for each
-  putOff : List ℕ → Decision
-
 -- a call's arguments
 pub data Call : Type 0 where
   -- clock, transport, a destination an entry, put-off list
@@ -54,6 +43,22 @@ pub data Call : Type 0 where
   ask : ℕ → Call
   -- the board's buffer
   board : List ℕ → Call
+
+-- the buffer that a call is lent, as it comes; nothing where none is lent
+abbrev pub lentTo : Call → List ℕ
+lentTo (job now t dests list) = list
+lentTo (pick now) = []
+lentTo (report now e ticket outcome list) = list
+lentTo (ask j) = []
+lentTo (board buffer) = buffer
+
+-- the refusal that a call meets, 0 for none
+abbrev pub refusalOf : State → Call → ℕ
+refusalOf s (job now t dests list) = jobRefusal s now t dests list
+refusalOf s (pick now) = pickRefusal s now
+refusalOf s (report now e ticket outcome list) = reportRefusal s now e ticket list
+refusalOf s (ask j) = askRefusal s j
+refusalOf s (board buffer) = boardRefusal s buffer
 
 abbrev pub refused : ℕ → Says
 refused k = record { refusal = k; values = [] }
@@ -70,18 +75,15 @@ unfoldable pub unlessRefused : ℕ → State → List ℕ → Reply → Reply
 unlessRefused zero s buffer r = r
 unlessRefused (suc k) s buffer r = record { says = refused (suc k); state = s; buffer = buffer }
 
-unfoldable pub decidedUnless : ℕ → Decision → Decision
-decidedUnless zero d = d
-decidedUnless (suc k) d = nothing
-
 -- Set-up. "A refused set-up gives a state of all zeros."
 
 unfoldable pub setupReply : Setup → Reply
 setupReply u = unlessRefused (setupRefusal u) zeroState [] (record { says = granted []; state = freshState u; buffer = [] })
 
+-- What an accepted call gives back.
+
 -- A job, from the state w after waking. "The answer is the job number and how many were put off; with n = 0 no job comes to be and only that
 -- count is answered."
-
 unfoldable pub takingReply : State → ℕ → ℕ → List ℕ → List ℕ → Reply
 takingReply w now t dests list =
     if eqb (nOf w dests) 0
@@ -96,18 +98,8 @@ takingReply w now t dests list =
       buffer = written (putOffPositions w dests) list;
     }
 
-unfoldable pub takingDecision : State → ℕ → List ℕ → Decision
-takingDecision w t dests = if eqb (nOf w dests) 0 then nothing else took (newNumber w) t (nOf w dests)
-
-unfoldable pub jobReply : State → ℕ → ℕ → List ℕ → List ℕ → Reply
-jobReply s now t dests list = unlessRefused (jobRefusal s now t dests list) s list (takingReply (woken s now) now t dests list)
-
-unfoldable pub jobDecision : State → ℕ → ℕ → List ℕ → List ℕ → Decision
-jobDecision s now t dests list = decidedUnless (jobRefusal s now t dests list) (takingDecision (woken s now) t dests)
-
 -- A pick. "A pick answers job, entry, ticket and the number of jobs passed over"; "Nothing picked: that count is 0 and no turn or ticket moves;
 -- the call is still accepted, with its clock and waking."
-
 unfoldable pub pickingReply : State → Picked → Reply
 pickingReply w p =
     record {
@@ -121,57 +113,72 @@ unfoldable pub afterPick : State → ℕ → Reply
 afterPick w now =
     if finds w then pickingReply w (picking w now) else record { says = granted (0 ∷ []); state = w; buffer = [] }
 
-unfoldable pub pickReply : State → ℕ → Reply
-pickReply s now = unlessRefused (pickRefusal s now) s [] (afterPick (woken s now) now)
-
-unfoldable pub pickingDecision : Found → Decision
-pickingDecision f = picked (f .job) (f .passed) (f .preempted)
-
-unfoldable pub pickDecision : State → ℕ → Decision
-pickDecision s now =
-    decidedUnless (pickRefusal s now) (if finds (woken s now) then pickingDecision (picking (woken s now) now .found) else nothing)
-
 -- A report. "A report answers how many were put off."
-
 unfoldable pub reportingReply : Reported → List ℕ → Reply
 reportingReply r list =
     record { says = granted (length (r .putoff) ∷ []); state = r .state; buffer = written (r .putoff) list }
 
-unfoldable pub reportReply : State → ℕ → ℕ → ℕ → Outcome → List ℕ → Reply
-reportReply s now e ticket outcome list =
-    unlessRefused (reportRefusal s now e ticket list) s list
-    (reportingReply (reporting (woken s now) now e (destinationOf s e) outcome) list)
+-- Asking about a job: "the entries that ever preempted it". Board text: "The answer is the text's length; bytes past it stay."
+abbrev pub accepted : State → Call → Reply
+accepted s (job now t dests list) = takingReply (woken s now) now t dests list
+accepted s (pick now) = afterPick (woken s now) now
+accepted s (report now e ticket outcome list) = reportingReply (reporting (woken s now) now e (destinationOf s e) outcome) list
+accepted s (ask j) = record { says = granted (at (s .jobs .overtakers) j ∷ []); state = s; buffer = [] }
+accepted s (board buffer) = record { says = granted (length (boardText s) ∷ []); state = s; buffer = written (boardText s) buffer }
 
-unfoldable pub reportDecision : State → ℕ → ℕ → ℕ → Outcome → List ℕ → Decision
-reportDecision s now e ticket outcome list =
-    decidedUnless (reportRefusal s now e ticket list)
-    (putOff (map (jobOf s) (reporting (woken s now) now e (destinationOf s e) outcome .putoff)))
-
--- Asking about a job. "the entries that ever preempted it"
-
-unfoldable pub askReply : State → ℕ → Reply
-askReply s j =
-    unlessRefused (askRefusal s j) s [] (record { says = granted (at (s .jobs .overtakers) j ∷ []); state = s; buffer = [] })
-
--- Board text. "The answer is the text's length; bytes past it stay."
-
-unfoldable pub boardReply : State → List ℕ → Reply
-boardReply s buffer =
-    unlessRefused (boardRefusal s buffer) s buffer
-    (record { says = granted (length (boardText s) ∷ []); state = s; buffer = written (boardText s) buffer })
-
--- Any call.
+-- Any call: it is refused, or accepted.
 
 unfoldable pub replyTo : State → Call → Reply
-replyTo s (job now t dests list) = jobReply s now t dests list
-replyTo s (pick now) = pickReply s now
-replyTo s (report now e ticket outcome list) = reportReply s now e ticket outcome list
-replyTo s (ask j) = askReply s j
-replyTo s (board buffer) = boardReply s buffer
+replyTo s call = unlessRefused (refusalOf s call) s (lentTo call) (accepted s call)
 
-unfoldable pub decisionOn : State → Call → Decision
-decisionOn s (job now t dests list) = jobDecision s now t dests list
-decisionOn s (pick now) = pickDecision s now
-decisionOn s (report now e ticket outcome list) = reportDecision s now e ticket outcome list
-decisionOn s (ask j) = nothing
-decisionOn s (board buffer) = nothing
+-- each call by its name
+
+abbrev pub jobReply : State → ℕ → ℕ → List ℕ → List ℕ → Reply
+jobReply s now t dests list = replyTo s (job now t dests list)
+
+abbrev pub pickReply : State → ℕ → Reply
+pickReply s now = replyTo s (pick now)
+
+abbrev pub reportReply : State → ℕ → ℕ → ℕ → Outcome → List ℕ → Reply
+reportReply s now e ticket outcome list = replyTo s (report now e ticket outcome list)
+
+abbrev pub askReply : State → ℕ → Reply
+askReply s j = replyTo s (ask j)
+
+abbrev pub boardReply : State → List ℕ → Reply
+boardReply s buffer = replyTo s (board buffer)
+
+-- What the rules decide.
+
+-- one thing that happened: what the tally and the accounts are fed
+pub data Decision : Type 0 where
+  -- the job taken, its transport and its n
+  took : ℕ → ℕ → ℕ → Decision
+  -- the job picked, the number passed over, who preempted whom with how many waiting
+  picked : ℕ → ℕ → Preemption → Decision
+  -- the job of an entry that a report put off
+  putOff : ℕ → Decision
+
+unfoldable pub takingDecisions : State → ℕ → List ℕ → List Decision
+takingDecisions w t dests = if eqb (nOf w dests) 0 then [] else took (newNumber w) t (nOf w dests) ∷ []
+
+abbrev pub pickingDecision : Found → Decision
+pickingDecision f = picked (f .job) (f .passed) (f .preempted)
+
+unfoldable pub pickDecisions : State → ℕ → List Decision
+pickDecisions w now = if finds w then pickingDecision (picking w now .found) ∷ [] else []
+
+-- what happened in an accepted call, in order
+abbrev pub decided : State → Call → List Decision
+decided s (job now t dests list) = takingDecisions (woken s now) t dests
+decided s (pick now) = pickDecisions (woken s now) now
+decided s (report now e ticket outcome list) = map putOff (map (jobOf s) (reporting (woken s now) now e (destinationOf s e) outcome .putoff))
+decided s (ask j) = []
+decided s (board buffer) = []
+
+unfoldable pub decidedUnless : ℕ → List Decision → List Decision
+decidedUnless zero ds = ds
+decidedUnless (suc k) ds = []
+
+unfoldable pub decisionsOn : State → Call → List Decision
+decisionsOn s call = decidedUnless (refusalOf s call) (decided s call)

@@ -1,7 +1,7 @@
 -- "Also, from the history: entries taken to wait = picked + put off later + still waiting": a row for each job ever taken, fed decisions.
 use Prim.Native.Nat.{ℕ, zero, suc, _+_}
 use mathlib.Core.Bool.{Bool, true, false, _&&_}
-use mathlib.Core.List.{List, [], _∷_, _++_}
+use mathlib.Core.List.{List, [], _∷_, _++_, foldl}
 use lib.ListN.{length, getD, set}
 use lib.Dec.{eqb}
 use Rattle.laws.specs.Choice.{if_then_else_}
@@ -10,7 +10,7 @@ use Rattle.rules.specs.declared.Setup.{Setup}
 use Rattle.rules.specs.declared.State.{State}
 use Rattle.rules.specs.State.{isPresent, waitingOf}
 use Rattle.rules.specs.Setup.{freshState}
-use Rattle.rules.specs.Calls.{Call, Decision, nothing, took, picked, putOff}
+use Rattle.rules.specs.Calls.{Call, Decision, took, picked, putOff}
 use Rattle.rules.specs.Run.{decisionsFrom}
 
 pub record Account : Type 0 where
@@ -42,23 +42,14 @@ booked (suc i) p q l =
       putoff = accountAt l i .putoff + q;
     })
 
-unfoldable pub bookedPutOff : List ℕ → List Account → List Account
-bookedPutOff [] l = l
-bookedPutOff (j ∷ jobs) l = bookedPutOff jobs (booked (accountOf l j) 0 1 l)
-
 unfoldable pub entered : List Account → Decision → List Account
-entered l nothing = l
 entered l (took j t n) = l ++ (record { job = j; taken = n; picked = 0; putoff = 0 } ∷ [])
 entered l (picked j passed p) = booked (accountOf l j) 1 0 l
-entered l (putOff jobs) = bookedPutOff jobs l
-
-unfoldable pub enteredAll : List Account → List Decision → List Account
-enteredAll l [] = l
-enteredAll l (d ∷ ds) = enteredAll (entered l d) ds
+entered l (putOff j) = booked (accountOf l j) 0 1 l
 
 -- the accounts after these calls
 unfoldable pub accountsOf : Setup → List Call → List Account
-accountsOf u calls = enteredAll [] (decisionsFrom (freshState u) calls)
+accountsOf u calls = foldl entered [] (decisionsFrom (freshState u) calls)
 
 -- what of account i still waits: of the newest account of a present job its waiting entries, else none
 unfoldable pub stillWaiting : State → List Account → ℕ → ℕ

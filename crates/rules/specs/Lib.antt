@@ -12,7 +12,6 @@ pub mod Reporting
 pub mod Board
 pub mod Refusals
 pub mod Calls
-pub mod Lent
 pub mod Answers
 pub mod Gave
 pub mod Tally

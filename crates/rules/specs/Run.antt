@@ -1,10 +1,10 @@
 -- A list of calls, run by the rules from the state of a set-up: "each later one the state as the call before left it".
 use Prim.Native.Nat.{ℕ}
-use mathlib.Core.List.{List, [], _∷_, _++_}
+use mathlib.Core.List.{List, [], _∷_, _++_, foldl}
 use Rattle.rules.specs.declared.Setup.{Setup}
 use Rattle.rules.specs.declared.State.{State}
 use Rattle.rules.specs.Setup.{freshState}
-use Rattle.rules.specs.Calls.{Says, Reply, Call, Decision, replyTo, decisionOn}
+use Rattle.rules.specs.Calls.{Says, Reply, Call, Decision, replyTo, decisionsOn}
 use Rattle.rules.specs.Tally.{Tally, noTally, tallied}
 
 -- the state after these calls
@@ -20,15 +20,11 @@ unfoldable pub repliesFrom : State → List Call → List Reply
 repliesFrom s [] = []
 repliesFrom s (call ∷ calls) = replyTo s call ∷ repliesFrom (replyTo s call .state) calls
 
--- what the rules decide of each call
+-- what the rules decide, call by call
 unfoldable pub decisionsFrom : State → List Call → List Decision
 decisionsFrom s [] = []
-decisionsFrom s (call ∷ calls) = decisionOn s call ∷ decisionsFrom (replyTo s call .state) calls
-
-unfoldable pub talliedAll : Tally → List Decision → Tally
-talliedAll y [] = y
-talliedAll y (d ∷ ds) = talliedAll (tallied y d) ds
+decisionsFrom s (call ∷ calls) = decisionsOn s call ++ decisionsFrom (replyTo s call .state) calls
 
 -- the tally of these calls
 unfoldable pub tallyOf : Setup → List Call → Tally
-tallyOf u calls = talliedAll noTally (decisionsFrom (freshState u) calls)
+tallyOf u calls = foldl tallied noTally (decisionsFrom (freshState u) calls)

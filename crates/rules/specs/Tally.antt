@@ -10,7 +10,7 @@ use Rattle.laws.specs.Newest.{newest}
 use Rattle.laws.specs.Chain.{alongChain}
 use Rattle.laws.specs.Update.{upd}
 use Rattle.rules.specs.Pick.{Preemption, nobody, preemption}
-use Rattle.rules.specs.Calls.{Decision, nothing, took, picked, putOff}
+use Rattle.rules.specs.Calls.{Decision, took, picked, putOff}
 
 -- a job's row; it stays when the job leaves
 pub record Row : Type 0 where
@@ -150,9 +150,8 @@ withPickAt y (suc i) passed rows =
 unfoldable pub withPick : Tally → ℕ → ℕ → Preemption → Tally
 withPick y j passed p = withPickAt y (rowOf (y .rows) j) passed (preemptedRows p (y .rows))
 
--- "Any other call, refused ones too: nothing changes"
+-- fed one decision. "Any other call, refused ones too: nothing changes": it decides nothing, or nothing that counts here
 unfoldable pub tallied : Tally → Decision → Tally
-tallied y nothing = y
 tallied y (took j t n) = withJob y j t n
 tallied y (picked j passed p) = withPick y j passed p
-tallied y (putOff jobs) = y
+tallied y (putOff j) = y

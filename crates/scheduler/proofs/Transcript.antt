@@ -6,25 +6,17 @@ use Rattle.rules.specs.declared.Setup.{Setup}
 use Rattle.rules.specs.declared.State.{State}
 use Rattle.rules.specs.declared.SetupReply.{SetupReply}
 use Rattle.rules.specs.Setup.{setupInRange, freshState}
-use Rattle.rules.specs.Calls.{Reply, Call, job, pick, report, ask, board, replyTo}
+use Rattle.rules.specs.Calls.{Call, replyTo}
 use Rattle.rules.specs.Run.{repliesFrom}
 use Rattle.rules.proofs.Replies.{start-is}
 use Rattle.rules.proofs.Demand3.{demand3, companions}
-use Rattle.scheduler.specs.Transcript.{Step, Kept, Follows, Transcript, callsOf, Holds}
-
-kept-is : (call : Call) (s : State) (g : Reply) → Kept call s g → g ≡ replyTo s call
-unfolding replyTo
-kept-is (job now t dests list) s g h = h
-kept-is (pick now) s g h = h
-kept-is (report now e ticket outcome list) s g h = h
-kept-is (ask j) s g h = h
-kept-is (board buffer) s g h = h
+use Rattle.scheduler.specs.Transcript.{Step, Follows, Transcript, callsOf, Holds}
 
 replies-are : (s : State) (steps : List Step) → Follows s steps → map (λ x. x .gave) steps ≡ repliesFrom s (callsOf steps)
 unfolding repliesFrom
 replies-are s [] h = refl
 replies-are s (x ∷ xs) (handed, kept, rest) =
-    let given : x .gave ≡ replyTo s (x .call) = kept-is (x .call) (x .handed) (x .gave) kept ∙ ap (λ z. replyTo z (x .call)) handed in
+    let given : x .gave ≡ replyTo s (x .call) = kept ∙ ap (λ z. replyTo z (x .call)) handed in
     ap₂ _∷_ given (replies-are (x .gave .state) xs rest ∙ ap (λ r. repliesFrom (r .state) (callsOf xs)) given)
 
 pub transcript-holds : (u : Setup) (start : SetupReply) (steps : List Step) → Transcript u start steps → Holds u steps

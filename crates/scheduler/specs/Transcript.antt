@@ -6,7 +6,7 @@ use Rattle.rules.specs.declared.Setup.{Setup}
 use Rattle.rules.specs.declared.State.{State}
 use Rattle.rules.specs.declared.SetupReply.{SetupReply}
 use Rattle.rules.specs.Setup.{freshState}
-use Rattle.rules.specs.Calls.{Reply, Call, job, pick, report, ask, board, jobReply, pickReply, reportReply, askReply, boardReply}
+use Rattle.rules.specs.Calls.{Reply, Call, replyTo}
 use Rattle.rules.specs.Run.{repliesFrom}
 use Rattle.rules.specs.Demand3.{Demand3, Companions}
 use Rattle.rules.specs.Gave.{SetupKept, accepts}
@@ -19,11 +19,7 @@ pub record Step : Type 0 where
 
 -- what the contract of the function called says of what it gave
 abbrev pub Kept : Call → State → Reply → Type 0
-Kept (job now t dests list) s g = g ≡ jobReply s now t dests list
-Kept (pick now) s g = g ≡ pickReply s now
-Kept (report now e ticket outcome list) s g = g ≡ reportReply s now e ticket outcome list
-Kept (ask j) s g = g ≡ askReply s j
-Kept (board buffer) s g = g ≡ boardReply s buffer
+Kept call s g = g ≡ replyTo s call
 
 -- the first call is handed this state, each later one the state as the call before left it
 abbrev pub Follows : State → List Step → Type 0

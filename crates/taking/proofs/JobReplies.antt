@@ -7,18 +7,15 @@ use Rattle.rules.specs.declared.State.{State}
 use Rattle.rules.specs.Sound.{sound}
 use Rattle.rules.specs.Windows.{woken}
 use Rattle.rules.specs.Refusals.{jobRefusal}
-use Rattle.rules.specs.Calls.{Reply, refused, takingReply, jobReply}
-use Rattle.rules.proofs.Replies.{refusing, accepting, refusing-unsound}
+use Rattle.rules.specs.Calls.{Reply, job, refused, takingReply, jobReply}
+use Rattle.rules.proofs.Replies.{reply-refused, reply-accepted, reply-unsound}
 
 module _ (s : State) (now t : ℕ) (dests list : List ℕ) where
   pub job-unsound : sound s ≡ false → record { says = refused 1; state = s; buffer = list } ≡ jobReply s now t dests list
-  unfolding jobReply jobRefusal
-  job-unsound h = refusing-unsound (sound s) _ s list _ h
+  job-unsound h = reply-unsound s (job now t dests list) h
 
   pub job-refused : (k : ℕ) → k ≡ jobRefusal s now t dests list → (k ≡ 0 → ⊥) → record { says = refused k; state = s; buffer = list } ≡ jobReply s now t dests list
-  unfolding jobReply
-  job-refused k e h = refusing k (jobRefusal s now t dests list) s list _ e (λ z. h (e ∙ z))
+  job-refused k e h = reply-refused s (job now t dests list) k e h
 
   pub job-taken : (x : Reply) → jobRefusal s now t dests list ≡ 0 → x ≡ takingReply (woken s now) now t dests list → x ≡ jobReply s now t dests list
-  unfolding jobReply
-  job-taken x e h = accepting (jobRefusal s now t dests list) s list x _ e h
+  job-taken x e h = reply-accepted s (job now t dests list) x e h
