@@ -1,6 +1,6 @@
 -- A state that comes in by value has its shape: the lengths of its arrays are in its type.
 use Prim.Native.Nat.{ℕ, zero, suc, _<_}
-use mathlib.Core.Path.{_≡_, sym, _∙_, subst}
+use mathlib.Core.Path.{_≡_, refl, sym, _∙_, subst}
 use mathlib.Core.List.{List, [], _∷_, map}
 use native.Mathlib.Nat.{not-suc-le-zero}
 use native.Mathlib.Omega.{arith}
@@ -15,7 +15,8 @@ use mir.Val.{Val}
 use Rattle.laws.proofs.Columns.{getD-default}
 use Rattle.rules.specs.declared.State.{State}
 use Rattle.rules.specs.State.{zeroList}
-use Rattle.rules.proofs.Shape.{Shaped}
+use Rattle.rules.specs.Setup.{noJobs}
+use Rattle.rules.proofs.Shape.{Shaped, lengthsOf}
 use Rattle.rules.proofs.State.{the-type}
 use Rattle.rules.proofs.State.Laws.{the-laws}
 
@@ -41,6 +42,26 @@ queue-long s g t l =
     let e = each-at _ _ (s .queues) (g .1 .1 .1 .1 .1 .1 .1 .1 .0 .0) t zeroList (subst (λ x. t < x) (sym n) l) (g .1 .1 .1 .1 .1 .1 .1 .1 .0 .1 .1) in
     length-of-map _ _ _ (getD (s .queues) t zeroList .jobs) 32 (e .1 .1 .1 .0 .1 .0 .1)
 
+-- each column of the jobs has its length
+job-lengths : (s : State) → Given s → lengthsOf (s .jobs) ≡ lengthsOf noJobs
+job-lengths s g =
+    let k = g .1 .1 .1 .1 .1 .1 .1 .1 .1 .1 .0 .1 .1 in
+    rw (
+      length-of-map _ _ _ (s .jobs .present) 32 (k .0 .1 .0 .1),
+      length-of-map _ _ _ (s .jobs .transport) 32 (k .1 .0 .1 .0 .1),
+      length-of-map _ _ _ (s .jobs .n) 32 (k .1 .1 .0 .1 .0 .1),
+      length-of-map _ _ _ (s .jobs .picked) 32 (k .1 .1 .1 .0 .1 .0 .1),
+      length-of-map _ _ _ (s .jobs .dropped) 32 (k .1 .1 .1 .1 .0 .1 .0 .1),
+      length-of-map _ _ _ (s .jobs .sold) 32 (k .1 .1 .1 .1 .1 .0 .1 .0 .1),
+      length-of-map _ _ _ (s .jobs .parent) 32 (k .1 .1 .1 .1 .1 .1 .0 .1 .0 .1),
+      length-of-map _ _ _ (s .jobs .preempted) 32 (k .1 .1 .1 .1 .1 .1 .1 .0 .1 .0 .1),
+      length-of-map _ _ _ (s .jobs .arrival) 32 (k .1 .1 .1 .1 .1 .1 .1 .1 .0 .1 .0 .1),
+      length-of-map _ _ _ (s .jobs .overtakers) 32 (k .1 .1 .1 .1 .1 .1 .1 .1 .1 .0 .1 .0 .1),
+      length-of-map _ _ _ (s .jobs .turn) 32 (k .1 .1 .1 .1 .1 .1 .1 .1 .1 .1 .0 .1 .0 .1),
+      length-of-map _ _ _ (s .jobs .places) 32 (k .1 .1 .1 .1 .1 .1 .1 .1 .1 .1 .1 .0 .1 .0 .1),
+      length-of-map _ _ _ (s .jobs .order) 1024 (k .1 .1 .1 .1 .1 .1 .1 .1 .1 .1 .1 .1 .0 .1 .0 .1),
+    ) refl
+
 pub shaped : (s : State) → Given s → Shaped s
 shaped s g =
     record {
@@ -49,22 +70,7 @@ shaped s g =
       queues = length-of-map _ _ _ (s .queues) 4 (g .1 .1 .1 .1 .1 .1 .1 .1 .0 .1 .0 .1);
       queue = λ t l. queue-long s g t l;
       arrivals = length-of-map _ _ _ (s .arrivals .jobs) 32 (g .1 .1 .1 .1 .1 .1 .1 .1 .1 .0 .1 .1 .0 .1 .0 .1);
-      jobs =
-          record {
-            present = length-of-map _ _ _ (s .jobs .present) 32 (g .1 .1 .1 .1 .1 .1 .1 .1 .1 .1 .0 .1 .1 .0 .1 .0 .1);
-            transport = length-of-map _ _ _ (s .jobs .transport) 32 (g .1 .1 .1 .1 .1 .1 .1 .1 .1 .1 .0 .1 .1 .1 .0 .1 .0 .1);
-            n = length-of-map _ _ _ (s .jobs .n) 32 (g .1 .1 .1 .1 .1 .1 .1 .1 .1 .1 .0 .1 .1 .1 .1 .0 .1 .0 .1);
-            picked = length-of-map _ _ _ (s .jobs .picked) 32 (g .1 .1 .1 .1 .1 .1 .1 .1 .1 .1 .0 .1 .1 .1 .1 .1 .0 .1 .0 .1);
-            dropped = length-of-map _ _ _ (s .jobs .dropped) 32 (g .1 .1 .1 .1 .1 .1 .1 .1 .1 .1 .0 .1 .1 .1 .1 .1 .1 .0 .1 .0 .1);
-            sold = length-of-map _ _ _ (s .jobs .sold) 32 (g .1 .1 .1 .1 .1 .1 .1 .1 .1 .1 .0 .1 .1 .1 .1 .1 .1 .1 .0 .1 .0 .1);
-            parent = length-of-map _ _ _ (s .jobs .parent) 32 (g .1 .1 .1 .1 .1 .1 .1 .1 .1 .1 .0 .1 .1 .1 .1 .1 .1 .1 .1 .0 .1 .0 .1);
-            preempted = length-of-map _ _ _ (s .jobs .preempted) 32 (g .1 .1 .1 .1 .1 .1 .1 .1 .1 .1 .0 .1 .1 .1 .1 .1 .1 .1 .1 .1 .0 .1 .0 .1);
-            arrival = length-of-map _ _ _ (s .jobs .arrival) 32 (g .1 .1 .1 .1 .1 .1 .1 .1 .1 .1 .0 .1 .1 .1 .1 .1 .1 .1 .1 .1 .1 .0 .1 .0 .1);
-            overtakers = length-of-map _ _ _ (s .jobs .overtakers) 32 (g .1 .1 .1 .1 .1 .1 .1 .1 .1 .1 .0 .1 .1 .1 .1 .1 .1 .1 .1 .1 .1 .1 .0 .1 .0 .1);
-            turn = length-of-map _ _ _ (s .jobs .turn) 32 (g .1 .1 .1 .1 .1 .1 .1 .1 .1 .1 .0 .1 .1 .1 .1 .1 .1 .1 .1 .1 .1 .1 .1 .0 .1 .0 .1);
-            places = length-of-map _ _ _ (s .jobs .places) 32 (g .1 .1 .1 .1 .1 .1 .1 .1 .1 .1 .0 .1 .1 .1 .1 .1 .1 .1 .1 .1 .1 .1 .1 .1 .0 .1 .0 .1);
-            order = length-of-map _ _ _ (s .jobs .order) 1024 (g .1 .1 .1 .1 .1 .1 .1 .1 .1 .1 .0 .1 .1 .1 .1 .1 .1 .1 .1 .1 .1 .1 .1 .1 .1 .0 .1 .0 .1);
-          };
+      jobs = record { lengths = job-lengths s g };
       entries =
           record {
             kind = length-of-map _ _ _ (s .entries .kind) 512 (g .1 .1 .1 .1 .1 .1 .1 .1 .1 .1 .1 .0 .1 .1 .0 .1 .0 .1);

@@ -25,13 +25,14 @@ use Rattle.rules.specs.Sizes.{maxTransports, maxDestinations, maxJobs, maxEntri
 use Rattle.rules.specs.State.{at, settingsFor, transportOf, healthOf, isLive, zeroDestination, zeroList, listOf, listed, queueOf, jobOf, destinationOf, isPresent, usedOf}
 use Rattle.rules.specs.Setup.{settingsInRange, setupInRange}
 use Rattle.rules.specs.Sound.{sound, busyOn, busyTo}
+use Rattle.rules.specs.Changed.{onPresent, onDropped, onParent}
 use Rattle.rules.specs.SoundFacts.{LiveSound, EntrySound, Sound}
 use Rattle.rules.specs.Windows.{wokenAt, woken}
-use Rattle.rules.specs.Reporting.{oneLessBusy, droppingJobs, remainingJobs, reportedHealth, dies, isPutOff, putOffEntries, putOffOf, kindAfter, settled, stays, parentAfter, departed, reportedAt, reporting}
+use Rattle.rules.specs.Reporting.{oneLessBusy, reportedHealth, dies, isPutOff, putOffEntries, putOffOf, kindAfter, settled, stays, parentAfter, departed, reportedAt, reporting}
 use Rattle.rules.specs.Calls.{Reply, granted, written, reportingReply}
 use Rattle.laws.specs.Choice.{if_then_else_}
 use Rattle.laws.specs.Chain.{firstAlong}
-use Rattle.rules.proofs.Shape.{Shaped}
+use Rattle.rules.proofs.Shape.{Shaped, present-length, dropped-length}
 use Rattle.rules.proofs.RangeFacts.{in-range-of, sums-fit-of}
 use Rattle.rules.proofs.Soundness.{sound-facts}
 use Rattle.rules.proofs.EntryTests.{busy-used}
@@ -101,7 +102,7 @@ module _ (s : State) (clock e places : ℕ) (shape : Shaped s) (can : CanReport 
   pub put-off-asks : (list : List ℕ) → length list ≡ places → CanPutOff (s .entries .kind) (s .entries .job) (s .jobs .dropped) list
   put-off-asks list l = record {
     entries = shape .entries .kind;
-    jobs = shape .jobs .dropped;
+    jobs = dropped-length (shape .jobs);
     places = omega (arith, l, can .lent);
     theirs = λ i k w. present-below s shape (jobOf s i) (waiting i k w .present);
     few = λ i k w.
@@ -175,7 +176,7 @@ module _ (s : State) (clock e : ℕ) (outcome : Outcome) (shape : Shaped s) wher
   unfolding settled woken
   reads = fun-ext λ j. elim (decLt j 32) [
     | yes p ↦ getD-table (stays Left) 32 j false p
-    | no p ↦ List·getD-eq-default (tableTo (stays Left) 32) false {n = j} (omega (arith, length-table (stays Left) 32)) ∙ sym (absent-leaves Left j (List·getD-eq-default (s .jobs .present) false {n = j} (omega (arith, shape .jobs .present))))
+    | no p ↦ List·getD-eq-default (tableTo (stays Left) 32) false {n = j} (omega (arith, length-table (stays Left) 32)) ∙ sym (absent-leaves Left j (List·getD-eq-default (s .jobs .present) false {n = j} (omega (arith, present-length (shape .jobs)))))
   ]
 
   module _ {list : List ℕ} {ds : List Destination} {after : Health} {live live' : Bool} {kind freed dropped written' : List ℕ} {n : ℕ} {stay : List Bool}
@@ -248,7 +249,7 @@ module _ (s : State) (clock e : ℕ) (outcome : Outcome) (shape : Shaped s) wher
         busy = oneLessBusy (s .busy) (transportOf s (destinationOf s e)) (destinationOf s e);
         queues = set (s .queues) (transportOf s (destinationOf s e)) queue;
         arrivals = arrivals;
-        jobs = remainingJobs (droppingJobs (s .jobs) dropped) stay adopted;
+        jobs = onPresent (λ l. stay) (onParent (λ l. adopted) (onDropped (λ l. dropped) (s .jobs)));
         entries = record { kind = freed; job = s .entries .job; destination = s .entries .destination; ticket = s .entries .ticket };
       };
       buffer = written';

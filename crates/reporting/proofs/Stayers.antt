@@ -51,7 +51,7 @@ module _ (s : State) (clock e places : ℕ) (can : CanReport s clock e places) w
     stay-where : (these : ℕ → Bool) → ((j : ℕ) → j < maxJobs → these j ≡ false → anyTo (usedOf s j) maxEntries ≡ true → Kept j)
         → OthersStay these freed (s .entries .job) (s .jobs .present)
     stay-where these h j l f p =
-        let w = h j l f (facts .jobs j l p .used) in
+        let w = h j l f (facts .used j l p) in
         any-of (usedAt freed (s .entries .job) j) maxEntries (w .0) (w .1) (used-still j (w .0) (w .1) (w .2) (w .3) (w .4))
 
     -- an entry of another job is another entry

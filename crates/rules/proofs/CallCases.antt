@@ -10,7 +10,7 @@ use borrow.Author.Tests.{eqb-false}
 use Rattle.laws.specs.Choice.{if_then_else_}
 use Rattle.rules.specs.declared.State.{State}
 use Rattle.rules.specs.declared.Outcome.{Outcome}
-use Rattle.rules.specs.Sizes.{lastSecond, maxEntries}
+use Rattle.rules.specs.Sizes.{maxEntries}
 use Rattle.rules.specs.State.{isBusy, jobOf, destinationOf}
 use Rattle.rules.specs.Windows.{woken}
 use Rattle.rules.specs.Taking.{keptOf, nOf, newNumber, taken}
@@ -64,11 +64,11 @@ module _ {ℓ} {A : Type 0} {feed : A → Decision → A} {P : State → A → T
       let kept = kept-picking w (w .clock) (k .shaped) (k .sound) f in
       record { shaped = kept .0; sound = kept .1; said = steps .picks w a (k .shaped) (k .sound) (k .said) f }
 
-  reported-of : (w : State) → Holds P w a → (e : ℕ) (outcome : Outcome) → w .clock ≤ lastSecond → e < maxEntries → isBusy w e ≡ true
+  reported-of : (w : State) → Holds P w a → (e : ℕ) (outcome : Outcome) → e < maxEntries → isBusy w e ≡ true
       → Holds P (reporting w (w .clock) e (destinationOf w e) outcome .state)
       (foldl feed a (map putOff (map (jobOf w) (reporting w (w .clock) e (destinationOf w e) outcome .putoff))))
-  reported-of w k e outcome c l b =
-      let kept = kept-reporting w (w .clock) e outcome (k .shaped) (k .sound) l b c in
+  reported-of w k e outcome l b =
+      let kept = kept-reporting w (w .clock) e outcome (k .shaped) (k .sound) l b in
       record { shaped = kept .0; sound = kept .1; said = steps .reports w a (k .shaped) (k .sound) (k .said) e outcome l b }
 
   -- refused, or not
@@ -101,7 +101,7 @@ module _ {ℓ} {A : Type 0} {feed : A → Decision → A} {P : State → A → T
   accepted-keeps (report now e ticket outcome list) r =
       let p = report-accepted s now e ticket list r in
       unfold woken in
-      reported-of (woken s now) (woke now (p .clock)) e outcome (p .clock .early) (p .entry) (p .busy)
+      reported-of (woken s now) (woke now (p .clock)) e outcome (p .entry) (p .busy)
   accepted-keeps (ask j) e = h
   accepted-keeps (board buffer) e = h
 

@@ -82,7 +82,7 @@ demand3 u h calls =
 -- a present job's transport is one of the set-up's: it has an entry
 job-lane : (s : State) → Shaped s → Sound s → (j : ℕ) → isPresent s j ≡ true → at (s .jobs .transport) j < s .setup .transports
 job-lane s shaped whole j h =
-    let (e, l, used) = any-witness (usedOf s j) maxEntries (whole .jobs j (present-below s shaped j h) h .used) in
+    let (e, l, used) = any-witness (usedOf s j) maxEntries (whole .used j (present-below s shaped j h) h) in
     let r = whole .entries e l (used-not-free s j e used) in
     subst (λ t. t < s .setup .transports) (sym (r .transport) ∙ ap (at (s .jobs .transport)) (used-job s j e used))
     (whole .setup .home (destinationOf s e) (r .destination))

@@ -26,7 +26,7 @@ use Rattle.rules.specs.SoundFacts.{QueueSound, ArrivalsSound}
 use Rattle.rules.specs.Reporting.{stays, nearestStaying, parentAfter, departed}
 use Rattle.rules.proofs.Shape.{Shaped}
 use Rattle.rules.proofs.EntryTests.{waits-used}
-use Rattle.rules.proofs.Taken.{present-below}
+use Rattle.rules.proofs.EntryFacts.{present-below}
 use Rattle.rules.proofs.TakenLists.{list-of-listed}
 
 -- Who stays.

@@ -15,7 +15,7 @@ use Rattle.rules.specs.Sizes.{maxJobs, maxEntries}
 use Rattle.rules.specs.State.{at, transportOf, isFree, isWaiting, isBusy, jobOf, destinationOf, isPresent, waitsOf, usedOf, waitingOf}
 use Rattle.rules.specs.SoundFacts.{EntrySound, Sound}
 use Rattle.rules.specs.Picking.{hasRoom, hasAgent, eligible, eligibleOf, hasEligible}
-use Rattle.rules.proofs.Shape.{Shaped}
+use Rattle.rules.proofs.Shape.{Shaped, present-length}
 
 module _ (s : State) where
   pub waiting-used : (e : ℕ) → isWaiting s e ≡ true → isFree s e ≡ false
@@ -65,5 +65,5 @@ module _ (s : State) where
   pub present-below : Shaped s → (j : ℕ) → isPresent s j ≡ true → j < maxJobs
   present-below h j p = elim (decLt j maxJobs) [
     | yes l ↦ l
-    | no l ↦ true-not-false p (List·getD-eq-default (s .jobs .present) false (omega (arith, h .jobs .present)))
+    | no l ↦ true-not-false p (List·getD-eq-default (s .jobs .present) false (omega (arith, present-length (h .jobs))))
   ]

@@ -18,7 +18,7 @@ use Rattle.rules.specs.Sizes.{maxJobs, maxEntries}
 use Rattle.rules.specs.State.{at, transportOf, isFree, isWaiting, isBusy, jobOf, destinationOf, waitsOf, busyOf, usedOf, waitingOf}
 use Rattle.rules.specs.Sound.{busyOn, busyTo}
 use Rattle.rules.specs.Pick.{handedOut}
-use Rattle.rules.proofs.Shape.{Shaped}
+use Rattle.rules.proofs.Shape.{Shaped, picked-length}
 use Rattle.rules.proofs.EntryFacts.{waiting-used, waiting-not-busy}
 
 -- entry e of job j, at this place of its order, can be handed out on transport t
@@ -110,7 +110,7 @@ module _ (w : State) (t j place e : ℕ) (shape : Shaped w) (can : CanHandOut w 
 
   pub handed-picked-own : j < maxJobs → at (handedOut w t j place e .jobs .picked) j ≡ suc (at (w .jobs .picked) j)
   unfolding handedOut
-  handed-picked-own l = omega (arith, getD-set-same (w .jobs .picked) j (at (w .jobs .picked) j + 1) 0 (omega (arith, shape .jobs .picked)))
+  handed-picked-own l = omega (arith, getD-set-same (w .jobs .picked) j (at (w .jobs .picked) j + 1) 0 (omega (arith, picked-length (shape .jobs))))
 
   pub handed-picked-other : (i : ℕ) → i ≢ j → at (handedOut w t j place e .jobs .picked) i ≡ at (w .jobs .picked) i
   unfolding handedOut

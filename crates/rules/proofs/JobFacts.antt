@@ -83,12 +83,18 @@ module _ (s : State) where
         complete = λ e l k. implies-at (all-at (inOrder j) maxEntries (o .2) e l) k;
         sold = leb-true (costOf s j * at (s .jobs .sold) j) (at (s .jobs .n) j) (and-left (soldFew j) unsoldTest (f .2));
         unsold = λ z. eqb-true (at (s .jobs .sold) j) 0 (implies-at (and-right (soldFew j) unsoldTest (f .2)) (eq-eqb (costOf s j) 0 z));
-        used = f .3;
         parent = child-facts j (parentOf s j) (f .4);
         ends = f .5;
         overtakers = leb-true (at (s .jobs .overtakers) j) sumLimit (f .6);
         turn = leb-true (at (s .jobs .turn) j) (at (s .jobs .places) j) (f .7);
       }
+
+  pub job-used : (j : ℕ) → jobSound s j ≡ true → anyTo (usedOf s j) maxEntries ≡ true
+  unfolding jobSound
+  job-used j h =
+      and-8 (countsSound s j) (orderSound s j) (soldSound s j) (anyTo (usedOf s j) maxEntries) (childOf s j (parentOf s j))
+      (endsIn (parentOf s) 32 (parentOf s j)) (leb (at (s .jobs .overtakers) j) sumLimit)
+      (leb (at (s .jobs .turn) j) (at (s .jobs .places) j)) h .3
 
   counts-of : (j : ℕ) → JobSound s j → countsSound s j ≡ true
   unfolding countsSound
@@ -111,13 +117,13 @@ module _ (s : State) where
       and-both (le-leb (costOf s j * at (s .jobs .sold) j) (at (s .jobs .n) j) (r .sold))
       (implies-of (eqb (costOf s j) 0) λ z. eq-eqb (at (s .jobs .sold) j) 0 (r .unsold (eqb-true (costOf s j) 0 z)))
 
-  pub job-of : (j : ℕ) → JobSound s j → jobSound s j ≡ true
+  pub job-of : (j : ℕ) → JobSound s j → anyTo (usedOf s j) maxEntries ≡ true → jobSound s j ≡ true
   unfolding jobSound
-  job-of j r =
+  job-of j r u =
       and-both
       (and-both
       (and-both
-      (and-both (and-both (and-both (and-both (counts-of j r) (order-of j r)) (sold-of j r)) (r .used)) (child-of j (parentOf s j) (r .parent)))
+      (and-both (and-both (and-both (and-both (counts-of j r) (order-of j r)) (sold-of j r)) u) (child-of j (parentOf s j) (r .parent)))
       (r .ends))
       (le-leb (at (s .jobs .overtakers) j) sumLimit (r .overtakers)))
       (le-leb (at (s .jobs .turn) j) (at (s .jobs .places) j) (r .turn))

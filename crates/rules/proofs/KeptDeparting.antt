@@ -1,4 +1,4 @@
--- When the jobs without an entry leave, what was almost sound is sound.
+-- When the jobs without an entry leave, the state is sound.
 use Prim.Native.Nat.{ℕ, suc, _≤_, _<_}
 use mathlib.Core.Path.{_≡_, refl, sym, _∙_, ap, subst}
 use mathlib.Core.Logic.{_≢_}
@@ -22,21 +22,19 @@ use Rattle.rules.specs.Sizes.{maxTransports, maxJobs, maxEntries}
 use Rattle.rules.specs.State.{at, zeroList, listOf, listed, queueOf, isFree, isPresent, hasPreempted, jobOf, waitsOf, busyOf, usedOf, waitingOf}
 use Rattle.rules.specs.State.{parentOf}
 use Rattle.rules.specs.Sound.{busyOn, busyTo, isJobOn, orderOf}
-use Rattle.rules.specs.SoundFacts.{EntrySound, QueueSound, ArrivalsSound, ChildOf, JobSound, DestinationSound, Sound}
+use Rattle.rules.specs.SoundFacts.{EntrySound, QueueSound, ArrivalsSound, ChildOf, JobSound, DestinationSound, Sound, SoundBesides}
 use Rattle.rules.specs.Reporting.{stays, nearestStaying, parentAfter, departed}
-use Rattle.rules.proofs.Shape.{Shaped, JobsShaped}
+use Rattle.rules.proofs.Shape.{Shaped, JobsShaped, present-length, parent-length}
 use Rattle.rules.proofs.EntryTests.{used-of}
-use Rattle.rules.proofs.Taken.{present-below}
+use Rattle.rules.proofs.EntryFacts.{present-below}
 use Rattle.rules.proofs.TakenLists.{once-few}
-use Rattle.rules.proofs.KeptSettling.{JobAlmost, AlmostSound}
 use Rattle.rules.proofs.Departed.{stays-present, stays-used, stays-of, departed-present, departed-parent-stays, departed-arrivals}
 use Rattle.rules.proofs.Departed.{departed-arrivals-once, departed-queue-list, departed-queue, departed-queue-list-other, departed-queue-other}
 use Rattle.rules.proofs.Departed.{departed-queue-once, departed-queue-once-other}
 
-module _ (s : State) (t : ℕ) (shaped : Shaped s) (almost : AlmostSound s) (inside : t < s .setup .transports)
-    (others : (j : ℕ) → j < maxJobs → isPresent s j ≡ true → at (s .jobs .transport) j ≢ t → anyTo (usedOf s j) maxEntries ≡ true) where
+module _ (s : State) (t : ℕ) (shaped : Shaped s) (sound : SoundBesides t s) (inside : t < s .setup .transports) where
   below-four : t < maxTransports
-  below-four = let b = almost .setup .transports .1 in omega arith
+  below-four = let b = sound .setup .transports .1 in omega arith
 
   -- Shape.
 
@@ -45,19 +43,8 @@ module _ (s : State) (t : ℕ) (shaped : Shaped s) (almost : AlmostSound s) (ins
   jobs-shaped =
       let g = shaped .jobs in
       record {
-        present = length-table (stays s) maxJobs;
-        transport = g .transport;
-        n = g .n;
-        picked = g .picked;
-        dropped = g .dropped;
-        sold = g .sold;
-        parent = length-table (parentAfter s) maxJobs;
-        preempted = g .preempted;
-        arrival = g .arrival;
-        overtakers = g .overtakers;
-        turn = g .turn;
-        places = g .places;
-        order = g .order;
+        lengths =
+            rw (length-table (stays s) maxJobs ∙ sym (present-length g), length-table (parentAfter s) maxJobs ∙ sym (parent-length g)) (g .lengths);
       }
 
   pub shaped-departed : Shaped (departed s t)
@@ -71,10 +58,10 @@ module _ (s : State) (t : ℕ) (shaped : Shaped s) (almost : AlmostSound s) (ins
             λ u l. elim (ℕ-discrete u t) [
               | yes e ↦
                   ap (λ x. length (getD ((departed s t) .queues) x zeroList .jobs)) e ∙ ap (λ q. length (q .jobs)) (departed-queue-list s t shaped below-four)
-                  ∙ length-padded maxJobs (keep (stays s) (queueOf s t)) (once-few (departed-queue-once s t shaped below-four (almost .queues t inside)))
+                  ∙ length-padded maxJobs (keep (stays s) (queueOf s t)) (once-few (departed-queue-once s t shaped below-four (sound .queues t inside)))
               | no ne ↦ ap (λ q. length (q .jobs)) (departed-queue-list-other s t shaped below-four u ne) ∙ shaped .queue u l
             ];
-        arrivals = length-padded maxJobs (keep (stays s) (listOf (s .arrivals))) (once-few (departed-arrivals-once s t shaped (almost .arrivals)));
+        arrivals = length-padded maxJobs (keep (stays s) (listOf (s .arrivals))) (once-few (departed-arrivals-once s t shaped (sound .arrivals)));
         jobs = jobs-shaped;
         entries = shaped .entries;
       }
@@ -84,19 +71,19 @@ module _ (s : State) (t : ℕ) (shaped : Shaped s) (almost : AlmostSound s) (ins
   entry-present : (e : ℕ) → e < maxEntries → isFree s e ≡ false → isPresent (departed s t) (jobOf s e) ≡ true
   entry-present e l f =
       departed-present s t shaped (jobOf s e)
-      ∙ stays-of s (jobOf s e) (almost .entries e l f .present) (any-of (usedOf s (jobOf s e)) maxEntries e l (used-of s (jobOf s e) e f refl))
+      ∙ stays-of s (jobOf s e) (sound .entries e l f .present) (any-of (usedOf s (jobOf s e)) maxEntries e l (used-of s (jobOf s e) e f refl))
 
   entries-departed : (e : ℕ) → e < maxEntries → isFree s e ≡ false → EntrySound (departed s t) e
   unfolding departed
   entries-departed e l f =
-      let h = almost .entries e l f in
+      let h = sound .entries e l f in
       record { kind = h .kind; present = entry-present e l f; destination = h .destination; transport = h .transport }
 
   -- Lists.
 
   queue-self : QueueSound (departed s t) t
   queue-self =
-      let o = departed-queue-once s t shaped below-four (almost .queues t inside) in
+      let o = departed-queue-once s t shaped below-four (sound .queues t inside) in
       record {
         count = rw (departed-queue-list s t shaped below-four) (once-few o);
         once = rw (departed-queue s t shaped below-four) (once-of (isJobOn (departed s t) t) maxJobs (keep (stays s) (queueOf s t)) o);
@@ -105,10 +92,10 @@ module _ (s : State) (t : ℕ) (shaped : Shaped s) (almost : AlmostSound s) (ins
   queue-other : (u : ℕ) → u ≢ t → u < s .setup .transports → QueueSound (departed s t) u
   queue-other u ne l =
       record {
-        count = rw (departed-queue-list-other s t shaped below-four u ne) (almost .queues u l .count);
+        count = rw (departed-queue-list-other s t shaped below-four u ne) (sound .queues u l .count);
         once =
             rw (departed-queue-other s t shaped below-four u ne)
-            (once-of (isJobOn (departed s t) u) maxJobs (queueOf s u) (departed-queue-once-other s t shaped below-four others u ne (almost .queues u l)));
+            (once-of (isJobOn (departed s t) u) maxJobs (queueOf s u) (departed-queue-once-other s t shaped below-four (sound .used) u ne (sound .queues u l)));
       }
 
   queues-departed : (u : ℕ) → u < s .setup .transports → QueueSound (departed s t) u
@@ -118,12 +105,12 @@ module _ (s : State) (t : ℕ) (shaped : Shaped s) (almost : AlmostSound s) (ins
   unfolding departed
   arrivals-departed =
       let e = departed-arrivals s t shaped in
-      let o = departed-arrivals-once s t shaped (almost .arrivals) in
+      let o = departed-arrivals-once s t shaped (sound .arrivals) in
       record {
         count = once-few o;
         once = rw e (once-of (isPresent (departed s t)) maxJobs (keep (stays s) (listOf (s .arrivals))) o);
-        rising = rw e (falling-keep (at (s .jobs .arrival)) (stays s) (listOf (s .arrivals)) (almost .arrivals .rising));
-        past = λ k h. almost .arrivals .past k (keep-in (stays s) k (listOf (s .arrivals)) (sym (ap (holds k) e) ∙ h));
+        rising = rw e (falling-keep (at (s .jobs .arrival)) (stays s) (listOf (s .arrivals)) (sound .arrivals .rising));
+        past = λ k h. sound .arrivals .past k (keep-in (stays s) k (listOf (s .arrivals)) (sym (ap (holds k) e) ∙ h));
       }
 
   -- Parents.
@@ -135,38 +122,38 @@ module _ (s : State) (t : ℕ) (shaped : Shaped s) (almost : AlmostSound s) (ins
   up : (u x y : ℕ) → Ancestor u x → parentOf s x ≡ suc y → Ancestor u y
   unfolding Ancestor
   up u x y a e =
-      let c = almost .jobs x (present-below s shaped x (a .0)) (a .0) .parent y e in
+      let c = sound .jobs x (present-below s shaped x (a .0)) (a .0) .parent y e in
       (c .present, c .transport ∙ a .1, c .picked)
 
-  first-up : (j : ℕ) → JobAlmost s j → (p : ℕ) → nearestStaying s j ≡ suc p
+  first-up : (j : ℕ) → JobSound s j → (p : ℕ) → nearestStaying s j ≡ suc p
       → Ancestor (at (s .jobs .transport) j) p × (stays s p ≡ true)
   unfolding Ancestor
   first-up j h =
       first-along-ok (stays s) (parentOf s) (Ancestor (at (s .jobs .transport) j)) (up (at (s .jobs .transport) j)) _ (parentOf s j)
       λ x e. let c = h .parent x e in (c .present, c .transport, c .picked)
 
-  had-parent : (j : ℕ) → JobAlmost s j → (p : ℕ) → nearestStaying s j ≡ suc p → hasPreempted s j ≡ true
+  had-parent : (j : ℕ) → JobSound s j → (p : ℕ) → nearestStaying s j ≡ suc p → hasPreempted s j ≡ true
   had-parent j h p e =
       link-cases (λ k. (parentOf s j ≡ k → hasPreempted s j ≡ true)) (parentOf s j)
       (λ q. let z : nearestStaying s j ≡ 0 = ap (firstAlong (stays s) (parentOf s) _) q ∙ first-along-zero (stays s) (parentOf s) _ in absurd (omega arith))
       (λ x k q. h .parent x q .marked)
       refl
 
-  child-departed : (j : ℕ) → stays s j ≡ true → JobAlmost s j → (p : ℕ) → parentOf (departed s t) j ≡ suc p → ChildOf (departed s t) j p
+  child-departed : (j : ℕ) → stays s j ≡ true → JobSound s j → (p : ℕ) → parentOf (departed s t) j ≡ suc p → ChildOf (departed s t) j p
   unfolding departed Ancestor
   child-departed j k h p e =
       let q = sym (departed-parent-stays s t shaped j k) ∙ e in
       let a = first-up j h p q in
       record { present = departed-present s t shaped p ∙ a .1; transport = a .0 .1; picked = a .0 .2; marked = had-parent j h p q }
 
-  ends-departed : (j : ℕ) → stays s j ≡ true → JobAlmost s j → endsIn (parentOf (departed s t)) 32 (parentOf (departed s t) j) ≡ true
+  ends-departed : (j : ℕ) → stays s j ≡ true → JobSound s j → endsIn (parentOf (departed s t)) 32 (parentOf (departed s t) j) ≡ true
   ends-departed j k h =
       rw (departed-parent-stays s t shaped j k)
       (ends-first (stays s) (parentOf s) (parentOf (departed s t)) _ (departed-parent-stays s t shaped) 32 _ (parentOf s j) (h .ends))
 
   -- Jobs.
 
-  job-departed : (j : ℕ) → stays s j ≡ true → JobAlmost s j → JobSound (departed s t) j
+  job-departed : (j : ℕ) → stays s j ≡ true → JobSound s j → JobSound (departed s t) j
   unfolding departed orderOf waitingOf waitsOf busyOf usedOf
   job-departed j k h =
       record {
@@ -178,7 +165,6 @@ module _ (s : State) (t : ℕ) (shaped : Shaped s) (almost : AlmostSound s) (ins
         complete = h .complete;
         sold = h .sold;
         unsold = h .unsold;
-        used = stays-used s j k;
         parent = child-departed j k h;
         ends = ends-departed j k h;
         overtakers = h .overtakers;
@@ -188,23 +174,24 @@ module _ (s : State) (t : ℕ) (shaped : Shaped s) (almost : AlmostSound s) (ins
   jobs-departed : (j : ℕ) → j < maxJobs → isPresent (departed s t) j ≡ true → JobSound (departed s t) j
   jobs-departed j l h =
       let k = sym (departed-present s t shaped j) ∙ h in
-      job-departed j k (almost .jobs j l (stays-present s j k))
+      job-departed j k (sound .jobs j l (stays-present s j k))
 
   destination-departed : (d : ℕ) → DestinationSound s d → DestinationSound (departed s t) d
   unfolding departed
   destination-departed d h = record { live = h .live; dead = h .dead }
 
   pub sound-departed : Sound (departed s t)
-  unfolding departed busyOn busyTo
+  unfolding departed busyOn busyTo usedOf
   sound-departed =
       record {
-        setup = almost .setup;
+        setup = sound .setup;
         entries = entries-departed;
-        busyTransport = almost .busyTransport;
-        busyDestination = almost .busyDestination;
+        busyTransport = sound .busyTransport;
+        busyDestination = sound .busyDestination;
         queues = queues-departed;
         arrivals = arrivals-departed;
         jobs = jobs-departed;
-        destinations = λ d l. destination-departed d (almost .destinations d l);
-        turn = almost .turn;
+        used = λ j l h. stays-used s j (sym (departed-present s t shaped j) ∙ h);
+        destinations = λ d l. destination-departed d (sound .destinations d l);
+        turn = sound .turn;
       }

@@ -33,22 +33,7 @@ module _ (u : Setup) where
         queues = refl;
         queue = λ t l. ap (λ q. length (q .jobs)) (getD-replicate maxTransports t zeroList zeroList l);
         arrivals = refl;
-        jobs =
-            record {
-              present = refl;
-              transport = refl;
-              n = refl;
-              picked = refl;
-              dropped = refl;
-              sold = refl;
-              parent = refl;
-              preempted = refl;
-              arrival = refl;
-              overtakers = refl;
-              turn = refl;
-              places = refl;
-              order = length-replicate {A = ℕ} 1024 0;
-            };
+        jobs = record { lengths = refl };
         entries = record { kind = length-replicate {A = ℕ} 512 0; job = length-replicate {A = ℕ} 512 0; destination = length-replicate {A = ℕ} 512 0; ticket = length-replicate {A = ℕ} 512 0 };
       }
 
@@ -151,6 +136,7 @@ module _ (u : Setup) where
           queues = λ t l. fresh-queue-sound t (in-four t l);
           arrivals = fresh-arrivals;
           jobs = λ j l h. true-not-false h (fresh-absent j l);
+          used = λ j l h. true-not-false h (fresh-absent j l);
           destinations = fresh-destination-sound;
           turn = omega arith;
         }

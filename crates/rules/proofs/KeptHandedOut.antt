@@ -7,7 +7,7 @@ use native.Mathlib.Decide.{ℕ-discrete}
 use native.Mathlib.Omega.{arith}
 use lib.ListN.{length-set}
 use borrow.Author.Tests.{eq-eqb, ne-eqb}
-use Rattle.laws.specs.Range.{countTo}
+use Rattle.laws.specs.Range.{anyTo, countTo}
 use Rattle.laws.proofs.Choice.{true-not-false, one-true, one-false}
 use Rattle.laws.proofs.All.{any-same}
 use Rattle.laws.proofs.Columns.{set-all}
@@ -17,7 +17,7 @@ use Rattle.rules.specs.State.{at, transportOf, isFree, isWaiting, isBusy
 use Rattle.rules.specs.Sound.{busyOn, busyTo, isJobOn, orderOf}
 use Rattle.rules.specs.SoundFacts.{EntrySound, JobSound, DestinationSound, Sound}
 use Rattle.rules.specs.Pick.{handedOut}
-use Rattle.rules.proofs.Shape.{Shaped}
+use Rattle.rules.proofs.Shape.{Shaped, picked-length, turn-length}
 use Rattle.rules.proofs.EntryFacts.{waiting-used, present-below}
 use Rattle.rules.proofs.HandedOut.{CanHandOut, handed-free, handed-waiting-here, handed-waiting-other, handed-busy-here, handed-busy-other, handed-used}
 use Rattle.rules.proofs.HandedOut.{handed-waits-own, handed-waits-other, handed-busy-own, handed-busy-of-other, handed-busy-on, handed-busy-to}
@@ -48,23 +48,11 @@ module _ (w : State) (t j place e : ℕ) (shape : Shaped w) (h : Sound w) (can :
         queues = shape .queues;
         queue = shape .queue;
         arrivals = shape .arrivals;
-        jobs = (
-            let k = shape .jobs in
+        jobs =
             record {
-              present = k .present;
-              transport = k .transport;
-              n = k .n;
-              picked = length-set (w .jobs .picked) j (at (w .jobs .picked) j + 1) ∙ k .picked;
-              dropped = k .dropped;
-              sold = k .sold;
-              parent = k .parent;
-              preempted = k .preempted;
-              arrival = k .arrival;
-              overtakers = k .overtakers;
-              turn = length-set (w .jobs .turn) j (place + 1) ∙ k .turn;
-              places = k .places;
-              order = k .order;
-            });
+              lengths =
+                  rw (length-set (w .jobs .picked) j (at (w .jobs .picked) j + 1), length-set (w .jobs .turn) j (place + 1)) (shape .jobs .lengths);
+            };
         entries =
             record {
               kind = length-set (w .entries .kind) e 2 ∙ shape .entries .kind;
@@ -122,14 +110,14 @@ module _ (w : State) (t j place e : ℕ) (shape : Shaped w) (h : Sound w) (can :
   more-picked : (p : ℕ) → 1 ≤ at (w .jobs .picked) p → 1 ≤ at (handedOut w t j place e .jobs .picked) p
   unfolding handedOut
   more-picked =
-      set-all (λ p v. 1 ≤ at (w .jobs .picked) p → 1 ≤ v) (w .jobs .picked) j (at (w .jobs .picked) j + 1) 0 (omega (arith, shape .jobs .picked, below))
+      set-all (λ p v. 1 ≤ at (w .jobs .picked) p → 1 ≤ v) (w .jobs .picked) j (at (w .jobs .picked) j + 1) 0 (omega (arith, picked-length (shape .jobs), below))
       (λ l. omega arith) (λ p ne l. l)
 
   kept-adds : (i : ℕ) → isPresent w i ≡ true → waitingOf (handedOut w t j place e) i + at (handedOut w t j place e .jobs .picked) i + at (w .jobs .dropped) i ≡ at (w .jobs .n) i
   unfolding handedOut
   kept-adds =
       set-all (λ i v. isPresent w i ≡ true → waitingOf (handedOut w t j place e) i + v + at (w .jobs .dropped) i ≡ at (w .jobs .n) i) (w .jobs .picked) j (at (w .jobs .picked) j + 1) 0
-      (omega (arith, shape .jobs .picked, below))
+      (omega (arith, picked-length (shape .jobs), below))
       (λ p. omega (arith, h .jobs j below p .adds, handed-waits-own w t j place e shape can))
       (λ i ne p. omega (arith, h .jobs i (present-below w shape i p) p .adds, handed-waits-other w t j place e shape can i ne))
 
@@ -137,14 +125,14 @@ module _ (w : State) (t j place e : ℕ) (shape : Shaped w) (h : Sound w) (can :
   unfolding handedOut
   kept-busy =
       set-all (λ i v. isPresent w i ≡ true → countTo (busyOf (handedOut w t j place e) i) maxEntries ≤ v) (w .jobs .picked) j (at (w .jobs .picked) j + 1) 0
-      (omega (arith, shape .jobs .picked, below))
+      (omega (arith, picked-length (shape .jobs), below))
       (λ p. omega (arith, h .jobs j below p .busy, handed-busy-own w t j place e shape can))
       (λ i ne p. omega (arith, h .jobs i (present-below w shape i p) p .busy, handed-busy-of-other w t j place e shape can i ne))
 
   kept-turn : (i : ℕ) → isPresent w i ≡ true → at (handedOut w t j place e .jobs .turn) i ≤ at (w .jobs .places) i
   unfolding handedOut
   kept-turn =
-      set-all (λ i v. isPresent w i ≡ true → v ≤ at (w .jobs .places) i) (w .jobs .turn) j (place + 1) 0 (omega (arith, shape .jobs .turn, below))
+      set-all (λ i v. isPresent w i ≡ true → v ≤ at (w .jobs .places) i) (w .jobs .turn) j (place + 1) 0 (omega (arith, turn-length (shape .jobs), below))
       (λ p. omega (arith, can .ordered))
       (λ i ne p. h .jobs i (present-below w shape i p) p .turn)
 
@@ -161,12 +149,14 @@ module _ (w : State) (t j place e : ℕ) (shape : Shaped w) (h : Sound w) (can :
         complete = λ x m u. k .complete x m (sym (handed-used w t j place e shape can i x) ∙ u);
         sold = k .sold;
         unsold = k .unsold;
-        used = any-same (usedOf (handedOut w t j place e) i) (usedOf w i) maxEntries (λ x m. handed-used w t j place e shape can i x) ∙ k .used;
         parent = λ q z. let c = k .parent q z in record { present = c .present; transport = c .transport; picked = more-picked q (c .picked); marked = c .marked };
         ends = k .ends;
         overtakers = k .overtakers;
         turn = kept-turn i p;
       }
+
+  kept-used : (i : ℕ) → i < maxJobs → isPresent w i ≡ true → anyTo (usedOf (handedOut w t j place e) i) maxEntries ≡ true
+  kept-used i l p = any-same (usedOf (handedOut w t j place e) i) (usedOf w i) maxEntries (λ x m. handed-used w t j place e shape can i x) ∙ h .used i l p
 
   pub sound-handed-out : Sound (handedOut w t j place e)
   unfolding handedOut isJobOn
@@ -179,6 +169,7 @@ module _ (w : State) (t j place e : ℕ) (shape : Shaped w) (h : Sound w) (can :
         queues = λ u l. let k = h .queues u l in record { count = k .count; once = k .once };
         arrivals = (let k = h .arrivals in record { count = k .count; once = k .once; rising = k .rising; past = k .past });
         jobs = kept-job;
+        used = kept-used;
         destinations = kept-destination;
         turn = omega (arith, on-transport);
       }

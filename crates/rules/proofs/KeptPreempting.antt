@@ -22,7 +22,7 @@ use Rattle.rules.specs.State.{at, settingsOf, zeroList, listOf, listed, 
 use Rattle.rules.specs.Sound.{busyOn, busyTo, isJobOn, orderOf, costOf}
 use Rattle.rules.specs.SoundFacts.{QueueSound, ChildOf, JobSound, Sound}
 use Rattle.rules.specs.Preemption.{addedTo, charged, preempting}
-use Rattle.rules.proofs.Shape.{Shaped}
+use Rattle.rules.proofs.Shape.{Shaped, sold-length, parent-length, preempted-length, overtakers-length}
 use Rattle.rules.proofs.EntryFacts.{present-below}
 use Rattle.rules.proofs.Picked.{Current, queue-once, queue-holds}
 use Rattle.rules.proofs.Preemptor.{Preempts}
@@ -60,7 +60,7 @@ charged-kept w y m shape h p =
     along-keeps (parentOf w) (addedTo m) (λ z. isPresent w z ≡ true) (SumsKept w) (parent-present w shape h)
     (λ x a o k. added-kept w m x a (present-below w shape x o) k)
     _ (suc y) (w .jobs .overtakers) (λ x e. subst (λ z. isPresent w z ≡ true) (suc-inj e) p)
-    (record { length = shape .jobs .overtakers; limit = λ j q. h .jobs j (present-below w shape j q) q .overtakers })
+    (record { length = overtakers-length (shape .jobs); limit = λ j q. h .jobs j (present-below w shape j q) q .overtakers })
 
 -- The parents after it.
 
@@ -78,7 +78,7 @@ module _ (w : State) (now t y x : ℕ) (shape : Shaped w) (h : Sound w) (lt : t 
 
   new-ends : (j : ℕ) → isPresent w j ≡ true → endsIn (newParent w x y) 32 (newParent w x y j) ≡ true
   new-ends =
-      set-all (λ j v. isPresent w j ≡ true → endsIn (newParent w x y) 32 v ≡ true) (w .jobs .parent) x (suc y) 0 (omega (arith, shape .jobs .parent, pre .below))
+      set-all (λ j v. isPresent w j ≡ true → endsIn (newParent w x y) 32 v ≡ true) (w .jobs .parent) x (suc y) 0 (omega (arith, parent-length (shape .jobs), pre .below))
       (λ p. sym (new-same (suc y) (λ z e. (subst (λ z. isPresent w z ≡ true) (suc-inj e) (cur .present), λ q. pre .other (sym q ∙ sym (suc-inj e))))) ∙ chain-ends w shape h y (cur .present))
       (λ j ne p.
       sym (new-same (parentOf w j) (λ z e. (parent-present w shape h j z p e, λ q. unpicked-childless w shape h x j (pre .unpicked) p (e ∙ ap suc q))))
@@ -87,13 +87,13 @@ module _ (w : State) (now t y x : ℕ) (shape : Shaped w) (h : Sound w) (lt : t 
   new-child : (j : ℕ) → isPresent w j ≡ true → (p : ℕ) → newParent w x y j ≡ suc p → ChildOf (preempting w t x y (waitingOf w x)) j p
   unfolding preempting
   new-child =
-      set-all (λ j v. isPresent w j ≡ true → (p : ℕ) → v ≡ suc p → ChildOf (preempting w t x y (waitingOf w x)) j p) (w .jobs .parent) x (suc y) 0 (omega (arith, shape .jobs .parent, pre .below))
+      set-all (λ j v. isPresent w j ≡ true → (p : ℕ) → v ≡ suc p → ChildOf (preempting w t x y (waitingOf w x)) j p) (w .jobs .parent) x (suc y) 0 (omega (arith, parent-length (shape .jobs), pre .below))
       (λ k p e. subst (ChildOf (preempting w t x y (waitingOf w x)) x) (suc-inj e)
       (record {
         present = cur .present;
         transport = cur .transport ∙ sym (pre .transport);
         picked = pre .picked;
-        marked = getD-set-same (w .jobs .preempted) x true false (omega (arith, shape .jobs .preempted, pre .below));
+        marked = getD-set-same (w .jobs .preempted) x true false (omega (arith, preempted-length (shape .jobs), pre .below));
       }))
       (λ j ne k p e.
       let c = h .jobs j (present-below w shape j k) k .parent p e in
@@ -109,14 +109,14 @@ module _ (w : State) (now t y x : ℕ) (shape : Shaped w) (h : Sound w) (lt : t 
   new-sold : (j : ℕ) → isPresent w j ≡ true → costOf w j * at (preempting w t x y (waitingOf w x) .jobs .sold) j ≤ at (w .jobs .n) j
   unfolding preempting
   new-sold =
-      set-all (λ j v. isPresent w j ≡ true → costOf w j * v ≤ at (w .jobs .n) j) (w .jobs .sold) y _ 0 (omega (arith, shape .jobs .sold, cur .below))
+      set-all (λ j v. isPresent w j ≡ true → costOf w j * v ≤ at (w .jobs .n) j) (w .jobs .sold) y _ 0 (omega (arith, sold-length (shape .jobs), cur .below))
       (λ p. rw (cur .transport, costOf) (omega (arith, pre .pays, mul-le-mul-left (settingsOf w t .cost) (pre .waits), h .jobs y (cur .below) p .adds)))
       (λ j ne p. h .jobs j (present-below w shape j p) p .sold)
 
   new-unsold : (j : ℕ) → isPresent w j ≡ true → costOf w j ≡ 0 → at (preempting w t x y (waitingOf w x) .jobs .sold) j ≡ 0
   unfolding preempting
   new-unsold =
-      set-all (λ j v. isPresent w j ≡ true → costOf w j ≡ 0 → v ≡ 0) (w .jobs .sold) y _ 0 (omega (arith, shape .jobs .sold, cur .below))
+      set-all (λ j v. isPresent w j ≡ true → costOf w j ≡ 0 → v ≡ 0) (w .jobs .sold) y _ 0 (omega (arith, sold-length (shape .jobs), cur .below))
       (λ p e. absurd (omega (arith, pre .cost, sym (ap (λ t. settingsOf w t .cost) (cur .transport)) ∙ e)))
       (λ j ne p. h .jobs j (present-below w shape j p) p .unsold)
 
@@ -133,7 +133,6 @@ module _ (w : State) (now t y x : ℕ) (shape : Shaped w) (h : Sound w) (lt : t 
         complete = k .complete;
         sold = new-sold j p;
         unsold = new-unsold j p;
-        used = k .used;
         parent = new-child j p;
         ends = new-ends j p;
         overtakers = charged-kept w y (waitingOf w x) shape h (cur .present) .limit j p;
@@ -185,28 +184,22 @@ module _ (w : State) (now t y x : ℕ) (shape : Shaped w) (h : Sound w) (lt : t 
             (λ l. length-padded maxJobs (moveBefore x y (queueOf w t)) moved-length)
             (λ u ne. shape .queue u);
         arrivals = shape .arrivals;
-        jobs = (
-            let k = shape .jobs in
+        jobs =
             record {
-              present = k .present;
-              transport = k .transport;
-              n = k .n;
-              picked = k .picked;
-              dropped = k .dropped;
-              sold = length-set (w .jobs .sold) y _ ∙ k .sold;
-              parent = length-set (w .jobs .parent) x (suc y) ∙ k .parent;
-              preempted = length-set (w .jobs .preempted) x true ∙ k .preempted;
-              arrival = k .arrival;
-              overtakers = charged-kept w y (waitingOf w x) shape h (cur .present) .length;
-              turn = k .turn;
-              places = k .places;
-              order = k .order;
-            });
+              lengths =
+                  rw (
+                    length-set (w .jobs .sold) y (at (w .jobs .sold) y + waitingOf w x),
+                    length-set (w .jobs .parent) x (suc y),
+                    length-set (w .jobs .preempted) x true,
+                    charged-kept w y (waitingOf w x) shape h (cur .present) .length ∙ sym (overtakers-length (shape .jobs)),
+                  )
+                  (shape .jobs .lengths);
+            };
         entries = shape .entries;
       }
 
   pub sound-preempting : Sound (preempting w t x y (waitingOf w x))
-  unfolding preempting busyOn busyTo
+  unfolding preempting busyOn busyTo usedOf
   sound-preempting =
       record {
         setup = h .setup;
@@ -216,6 +209,7 @@ module _ (w : State) (now t y x : ℕ) (shape : Shaped w) (h : Sound w) (lt : t 
         queues = kept-queue;
         arrivals = (let k = h .arrivals in record { count = k .count; once = k .once; rising = k .rising; past = k .past });
         jobs = kept-job;
+        used = h .used;
         destinations = λ d l. let k = h .destinations d l in record { live = k .live; dead = k .dead };
         turn = h .turn;
       }

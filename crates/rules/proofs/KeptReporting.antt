@@ -20,7 +20,7 @@ use Rattle.rules.specs.Reporting.{reportedHealth, dies, settled, reporte
 use Rattle.rules.proofs.Shape.{Shaped}
 use Rattle.rules.proofs.WindowLaws.{live-success, live-failure}
 use Rattle.rules.proofs.SettledCounts.{reported-entry, reported-transport}
-use Rattle.rules.proofs.KeptSettling.{Stepped, shaped-settled, settled-others, almost-settled}
+use Rattle.rules.proofs.KeptSettling.{Stepped, shaped-settled, sound-settled}
 use Rattle.rules.proofs.KeptDeparting.{shaped-departed, sound-departed}
 
 -- The destination's step.
@@ -60,21 +60,17 @@ module _ (w : State) (e : ℕ) (health : Health) (died : Bool) (shaped : Shaped 
   unfolding settled
   home = reported-transport w e health died shaped sound inside busy
 
-  pub others-stay : (j : ℕ) → j < maxJobs → isPresent (settled w e (destinationOf w e) health died) j ≡ true → at ((settled w e (destinationOf w e) health died) .jobs .transport) j ≢ transportOf w (destinationOf w e) → anyTo (usedOf (settled w e (destinationOf w e) health died) j) maxEntries ≡ true
-  unfolding settled
-  others-stay = settled-others w e health died shaped sound inside busy
-
   pub kept-reported-at : Stepped w (destinationOf w e) health died → Shaped (reportedAt w e (destinationOf w e) health died .state) × Sound (reportedAt w e (destinationOf w e) health died .state)
   unfolding reportedAt
   kept-reported-at step =
-      let a = almost-settled w e health died shaped sound inside busy step in
+      let a = sound-settled w e health died shaped sound inside busy step in
       let s = shaped-settled w e health died shaped sound inside busy in
-      (shaped-departed (settled w e (destinationOf w e) health died) (transportOf w (destinationOf w e)) s a home others-stay, sound-departed (settled w e (destinationOf w e) health died) (transportOf w (destinationOf w e)) s a home others-stay)
+      (shaped-departed (settled w e (destinationOf w e) health died) (transportOf w (destinationOf w e)) s a home, sound-departed (settled w e (destinationOf w e) health died) (transportOf w (destinationOf w e)) s a home)
 
-pub kept-reporting : (w : State) (now e : ℕ) (outcome : Outcome) → Shaped w → Sound w → e < maxEntries → isBusy w e ≡ true → now ≤ lastSecond
+pub kept-reporting : (w : State) (now e : ℕ) (outcome : Outcome) → Shaped w → Sound w → e < maxEntries → isBusy w e ≡ true
     → Shaped (reporting w now e (destinationOf w e) outcome .state) × Sound (reporting w now e (destinationOf w e) outcome .state)
 unfolding reporting
-kept-reporting w now e outcome shaped sound inside busy late =
+kept-reporting w now e outcome shaped sound inside busy =
     let d = destinationOf w e in
     let health = reportedHealth w now d outcome in
     let died = dies (healthOf w d) health in

@@ -1,4 +1,4 @@
--- The destination's step of a report keeps the shape, and all of soundness but that each job has an entry.
+-- The destination's step of a report keeps the shape, and soundness but that the jobs of its transport have an entry each.
 use Prim.Native.Nat.{ℕ, suc, _+_, _-_, _*_, _≤_, _<_}
 use mathlib.Core.Path.{_≡_, sym, _∙_, ap, subst}
 use mathlib.Core.Logic.{_≢_, _⊎_, inl, inr, ⊎-elim}
@@ -23,39 +23,12 @@ use Rattle.rules.specs.Sizes.{maxDestinations, maxJobs, maxEntries, maxL
 use Rattle.rules.specs.State.{at, zeroDestination, healthOf, settingsFor, transportOf, isFree, isWaiting, isBusy, isPresent, destinationOf}
 use Rattle.rules.specs.State.{busyOf, usedOf, waitingOf, parentOf}
 use Rattle.rules.specs.Sound.{busyOn, busyTo, isJobOn, orderOf, costOf}
-use Rattle.rules.specs.SoundFacts.{InRange, EntrySound, QueueSound, ArrivalsSound, ChildOf, JobSound, LiveSound, DestinationSound, Sound}
+use Rattle.rules.specs.SoundFacts.{EntrySound, QueueSound, ArrivalsSound, ChildOf, JobSound, LiveSound, DestinationSound, Sound, SoundBesides}
 use Rattle.rules.specs.Reporting.{isPutOff, putOffOf, kindAfter, settled}
-use Rattle.rules.proofs.Shape.{Shaped}
+use Rattle.rules.proofs.Shape.{Shaped, dropped-length}
 use Rattle.rules.proofs.EntryTests.{waiting-used, used-job, used-not-free, same-free, same-waiting, same-busy, same-used}
 use Rattle.rules.proofs.Settled.{put-off-of, put-off-destination, settled-entry, settled-used-same, settled-used, settled-waiting}
 use Rattle.rules.proofs.SettledCounts.{reported-entry, settled-busy-of, settled-busy-destination, settled-busy-transport}
-
--- JobSound but for the entry that each job has
-pub record JobAlmost (s : State) (j : ℕ) : Type 0 where
-  pub adds : waitingOf s j + at (s .jobs .picked) j + at (s .jobs .dropped) j ≡ at (s .jobs .n) j
-  pub n : (1 ≤ at (s .jobs .n) j) × (at (s .jobs .n) j ≤ maxLength)
-  pub busy : countTo (busyOf s j) maxEntries ≤ at (s .jobs .picked) j
-  pub places : at (s .jobs .places) j ≤ maxDestinations
-  pub distinct : (d : ℕ) → holds d (orderOf s j) ≡ true → timesIn d (orderOf s j) ≡ 1
-  pub complete : (e : ℕ) → e < maxEntries → usedOf s j e ≡ true → holds (destinationOf s e) (orderOf s j) ≡ true
-  pub sold : costOf s j * at (s .jobs .sold) j ≤ at (s .jobs .n) j
-  pub unsold : costOf s j ≡ 0 → at (s .jobs .sold) j ≡ 0
-  pub parent : (p : ℕ) → parentOf s j ≡ suc p → ChildOf s j p
-  pub ends : endsIn (parentOf s) 32 (parentOf s j) ≡ true
-  pub overtakers : at (s .jobs .overtakers) j ≤ sumLimit
-  pub turn : at (s .jobs .turn) j ≤ at (s .jobs .places) j
-
--- Sound but for that
-pub record AlmostSound (s : State) : Type 0 where
-  pub setup : InRange (s .setup)
-  pub entries : (e : ℕ) → e < maxEntries → isFree s e ≡ false → EntrySound s e
-  pub busyTransport : (t : ℕ) → t < s .setup .transports → at (s .busy .transport) t ≡ countTo (busyOn s t) maxEntries
-  pub busyDestination : (d : ℕ) → d < s .setup .destinations → at (s .busy .destination) d ≡ countTo (busyTo s d) maxEntries
-  pub queues : (t : ℕ) → t < s .setup .transports → QueueSound s t
-  pub arrivals : ArrivalsSound s
-  pub jobs : (j : ℕ) → j < maxJobs → isPresent s j ≡ true → JobAlmost s j
-  pub destinations : (d : ℕ) → d < s .setup .destinations → DestinationSound s d
-  pub turn : s .turn ≤ s .setup .transports
 
 -- what a destination's step has to give
 pub record Stepped (w : State) (d : ℕ) (health : Health) (died : Bool) : Type 0 where
@@ -68,7 +41,6 @@ module _ (w : State) (e : ℕ) (health : Health) (died : Bool) (shaped : Shaped 
   pub shaped-settled : Shaped (settled w e (destinationOf w e) health died)
   unfolding settled
   shaped-settled =
-      let g = shaped .jobs in
       record {
         destinations = length-set (w .destinations) (destinationOf w e) (record { health = health }) ∙ shaped .destinations;
         busy =
@@ -81,19 +53,9 @@ module _ (w : State) (e : ℕ) (health : Health) (died : Bool) (shaped : Shaped 
         arrivals = shaped .arrivals;
         jobs =
             record {
-              present = g .present;
-              transport = g .transport;
-              n = g .n;
-              picked = g .picked;
-              dropped = length-table (λ j. at (w .jobs .dropped) j + putOffOf w died (destinationOf w e) j) maxJobs;
-              sold = g .sold;
-              parent = g .parent;
-              preempted = g .preempted;
-              arrival = g .arrival;
-              overtakers = g .overtakers;
-              turn = g .turn;
-              places = g .places;
-              order = g .order;
+              lengths =
+                  rw (length-table (λ j. at (w .jobs .dropped) j + putOffOf w died (destinationOf w e) j) maxJobs ∙ sym (dropped-length (shaped .jobs)))
+                  (shaped .jobs .lengths);
             };
         entries =
             record {
@@ -148,7 +110,7 @@ module _ (w : State) (e : ℕ) (health : Health) (died : Bool) (shaped : Shaped 
   settled-complete : (j : ℕ) → JobSound w j → (i : ℕ) → i < maxEntries → usedOf (settled w e (destinationOf w e) health died) j i ≡ true → holds (destinationOf w i) (orderOf w j) ≡ true
   settled-complete j h i l u = h .complete i l (settled-used w e health died shaped sound inside busy j i l u)
 
-  job-settled : (j : ℕ) → j < maxJobs → JobSound w j → JobAlmost (settled w e (destinationOf w e) health died) j
+  job-settled : (j : ℕ) → j < maxJobs → JobSound w j → JobSound (settled w e (destinationOf w e) health died) j
   unfolding settled orderOf
   job-settled j l h =
       record {
@@ -170,8 +132,8 @@ module _ (w : State) (e : ℕ) (health : Health) (died : Bool) (shaped : Shaped 
       }
 
   -- jobs of other transports keep their entries
-  pub settled-others : (j : ℕ) → j < maxJobs → isPresent w j ≡ true → at (w .jobs .transport) j ≢ transportOf w (destinationOf w e) → anyTo (usedOf (settled w e (destinationOf w e) health died) j) maxEntries ≡ true
-  settled-others j l h ne = any-imp (usedOf w j) (usedOf (settled w e (destinationOf w e) health died) j) maxEntries still (sound .jobs j l h .used)
+  settled-others : (j : ℕ) → j < maxJobs → isPresent w j ≡ true → at (w .jobs .transport) j ≢ transportOf w (destinationOf w e) → anyTo (usedOf (settled w e (destinationOf w e) health died) j) maxEntries ≡ true
+  settled-others j l h ne = any-imp (usedOf w j) (usedOf (settled w e (destinationOf w e) health died) j) maxEntries still (sound .used j l h)
     where
       elsewhere : (i : ℕ) → i < maxEntries → usedOf w j i ≡ true → destinationOf w i ≡ (destinationOf w e) → ⊥
       elsewhere i k u q =
@@ -229,9 +191,9 @@ module _ (w : State) (e : ℕ) (health : Health) (died : Bool) (shaped : Shaped 
     | no ne ↦ destination-other d ne (sound .destinations d l)
   ]
 
-  pub almost-settled : Stepped w (destinationOf w e) health died → AlmostSound (settled w e (destinationOf w e) health died)
+  pub sound-settled : Stepped w (destinationOf w e) health died → SoundBesides (transportOf w (destinationOf w e)) (settled w e (destinationOf w e) health died)
   unfolding settled
-  almost-settled step =
+  sound-settled step =
       record {
         setup = sound .setup;
         entries = settled-entries;
@@ -240,6 +202,7 @@ module _ (w : State) (e : ℕ) (health : Health) (died : Bool) (shaped : Shaped 
         queues = λ t l. queue-settled t (sound .queues t l);
         arrivals = arrivals-settled;
         jobs = λ j l h. job-settled j l (sound .jobs j l h);
+        used = settled-others;
         destinations = destinations-settled step;
         turn = sound .turn;
       }

@@ -18,12 +18,12 @@ use Rattle.rules.specs.State.{at, zeroList, healthOf, isLive, listOf, li
 use Rattle.rules.specs.Sound.{busyOn, busyTo, isJobOn}
 use Rattle.rules.specs.SoundFacts.{EntrySound, QueueSound, ArrivalsSound, DestinationSound, Sound}
 use Rattle.rules.specs.Taking.{newOrder, keptOf, newNumber, taken}
-use Rattle.rules.proofs.Shape.{Shaped, JobsShaped, EntriesShaped}
+use Rattle.rules.proofs.Shape.{Shaped, JobsShaped, order-length, EntriesShaped}
 use Rattle.rules.proofs.Filled.{length-filled, length-with-order}
 use Rattle.rules.proofs.EntryTests.{SameEntry, same-free, same-waiting, same-busy}
 use Rattle.rules.proofs.Taken.{Fits, present-other, Passed, fits-of, placeIn, taken-others, taken-new, new-order-few}
 use Rattle.rules.proofs.TakenEntries.{NewEntry, taken-entry, taken-busy-to, taken-busy-on}
-use Rattle.rules.proofs.TakenJobs.{jobs-taken}
+use Rattle.rules.proofs.TakenJobs.{jobs-taken, used-taken}
 use Rattle.rules.proofs.TakenLists.{once-few, taken-queue-list, taken-queue, taken-queue-list-other, taken-queue-other, taken-arrivals}
 use Rattle.rules.proofs.TakenLists.{taken-queue-once, taken-queue-once-other, taken-arrivals-once, taken-rising, taken-past}
 
@@ -33,21 +33,26 @@ module _ (w : State) (j t now : ℕ) (kept : List ℕ) (shaped : Shaped w) (soun
   jobs-shaped : JobsShaped ((taken w j t now kept) .jobs)
   unfolding taken
   jobs-shaped =
-      let g = shaped .jobs in
+      let g = w .jobs in
       record {
-        present = length-set (w .jobs .present) j true ∙ g .present;
-        transport = length-set (w .jobs .transport) j t ∙ g .transport;
-        n = length-set (w .jobs .n) j (length kept) ∙ g .n;
-        picked = length-set (w .jobs .picked) j 0 ∙ g .picked;
-        dropped = length-set (w .jobs .dropped) j 0 ∙ g .dropped;
-        sold = length-set (w .jobs .sold) j 0 ∙ g .sold;
-        parent = length-set (w .jobs .parent) j 0 ∙ g .parent;
-        preempted = length-set (w .jobs .preempted) j false ∙ g .preempted;
-        arrival = length-set (w .jobs .arrival) j now ∙ g .arrival;
-        overtakers = length-set (w .jobs .overtakers) j 0 ∙ g .overtakers;
-        turn = length-set (w .jobs .turn) j 0 ∙ g .turn;
-        places = length-set (w .jobs .places) j (length (newOrder kept)) ∙ g .places;
-        order = length-with-order (w .jobs .order) j (newOrder kept) (g .order) (fits .number) (new-order-few w j t now kept shaped sound fits);
+        lengths =
+            rw (
+              length-set (g .present) j true,
+              length-set (g .transport) j t,
+              length-set (g .n) j (length kept),
+              length-set (g .picked) j 0,
+              length-set (g .dropped) j 0,
+              length-set (g .sold) j 0,
+              length-set (g .parent) j 0,
+              length-set (g .preempted) j false,
+              length-set (g .arrival) j now,
+              length-set (g .overtakers) j 0,
+              length-set (g .turn) j 0,
+              length-set (g .places) j (length (newOrder kept)),
+              length-with-order (g .order) j (newOrder kept) (order-length (shaped .jobs)) (fits .number) (new-order-few w j t now kept shaped sound fits)
+                  ∙ sym (order-length (shaped .jobs)),
+            )
+            (shaped .jobs .lengths);
       }
 
   entries-shaped : EntriesShaped ((taken w j t now kept) .entries)
@@ -178,6 +183,7 @@ module _ (w : State) (j t now : ℕ) (kept : List ℕ) (shaped : Shaped w) (soun
         queues = queue-sound;
         arrivals = arrivals-sound clock;
         jobs = jobs-taken w j t now kept shaped sound fits;
+        used = used-taken w j t now kept shaped sound fits;
         destinations = destination-sound;
         turn = sound .turn;
       }

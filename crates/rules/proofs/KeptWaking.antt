@@ -91,12 +91,12 @@ kept-woken s now shape h late = (
       complete = k .complete;
       sold = k .sold;
       unsold = k .unsold;
-      used = k .used;
       parent = λ q e. let c = k .parent q e in record { present = c .present; transport = c .transport; picked = c .picked; marked = c .marked };
       ends = k .ends;
       overtakers = k .overtakers;
       turn = k .turn;
     };
+    used = h .used;
     destinations = kept-destination s now h;
     turn = h .turn;
   },

@@ -12,7 +12,7 @@ use Rattle.rules.specs.Sizes.{maxTransports, maxJobs}
 use Rattle.rules.specs.State.{at, zeroList, listOf, listed, queueOf, isPresent, hasPreempted, waitsOf, waitingOf, parentOf}
 use Rattle.rules.specs.Picking.{hasRoom, hasAgent, eligible, eligibleOf, eligibleTo, hasEligible, nextPlace, nextEntry}
 use Rattle.rules.specs.Preemption.{charged, preempting}
-use Rattle.rules.proofs.Shape.{Shaped}
+use Rattle.rules.proofs.Shape.{Shaped, sold-length, parent-length, preempted-length}
 
 -- A preemption changes no entry: who waits, what is eligible and which is next stay.
 
@@ -67,7 +67,7 @@ module _ (w : State) (t x y m : ℕ) (shape : Shaped w) where
 
   pub preempting-sold-own : y < maxJobs → at (preempting w t x y m .jobs .sold) y ≡ at (w .jobs .sold) y + m
   unfolding preempting
-  preempting-sold-own l = getD-set-same (w .jobs .sold) y _ 0 (omega (arith, shape .jobs .sold))
+  preempting-sold-own l = getD-set-same (w .jobs .sold) y _ 0 (omega (arith, sold-length (shape .jobs)))
 
   pub preempting-sold-other : (j : ℕ) → j ≢ y → at (preempting w t x y m .jobs .sold) j ≡ at (w .jobs .sold) j
   unfolding preempting
@@ -75,7 +75,7 @@ module _ (w : State) (t x y m : ℕ) (shape : Shaped w) where
 
   pub preempting-parent-own : x < maxJobs → parentOf (preempting w t x y m) x ≡ suc y
   unfolding preempting
-  preempting-parent-own l = getD-set-same (w .jobs .parent) x (suc y) 0 (omega (arith, shape .jobs .parent))
+  preempting-parent-own l = getD-set-same (w .jobs .parent) x (suc y) 0 (omega (arith, parent-length (shape .jobs)))
 
   pub preempting-parent-other : (j : ℕ) → j ≢ x → parentOf (preempting w t x y m) j ≡ parentOf w j
   unfolding preempting
@@ -83,7 +83,7 @@ module _ (w : State) (t x y m : ℕ) (shape : Shaped w) where
 
   pub preempting-marked-own : x < maxJobs → hasPreempted (preempting w t x y m) x ≡ true
   unfolding preempting
-  preempting-marked-own l = getD-set-same (w .jobs .preempted) x true false (omega (arith, shape .jobs .preempted))
+  preempting-marked-own l = getD-set-same (w .jobs .preempted) x true false (omega (arith, preempted-length (shape .jobs)))
 
   pub preempting-marked-other : (j : ℕ) → j ≢ x → hasPreempted (preempting w t x y m) j ≡ hasPreempted w j
   unfolding preempting

@@ -15,15 +15,15 @@ use Rattle.rules.specs.declared.Outcome.{Outcome}
 use Rattle.rules.specs.declared.State.{State}
 use Rattle.rules.specs.Sizes.{maxTransports, maxJobs, maxEntries}
 use Rattle.rules.specs.State.{at, healthOf, transportOf, listOf, queueOf, isBusy, isPresent, jobOf, destinationOf, waitsOf, waitingOf, parentOf}
-use Rattle.rules.specs.SoundFacts.{Sound}
+use Rattle.rules.specs.SoundFacts.{Sound, SoundBesides}
 use Rattle.rules.specs.Reporting.{reportedHealth, dies, isPutOff, putOffEntries, putOffOf, settled, stays, nearestStaying, departed, reportedAt, reporting}
 use Rattle.rules.proofs.Shape.{Shaped}
 use Rattle.rules.proofs.Settled.{settled-waiting}
 use Rattle.rules.proofs.SettledCounts.{reported-entry, reported-transport}
-use Rattle.rules.proofs.KeptSettling.{AlmostSound, shaped-settled, settled-dropped, settled-health, settled-health-other, almost-settled}
+use Rattle.rules.proofs.KeptSettling.{shaped-settled, settled-dropped, settled-health, settled-health-other, sound-settled}
 use Rattle.rules.proofs.Departed.{stays-present, leaves-waiting, departed-present, departed-parent-stays, departed-parent-leaves}
 use Rattle.rules.proofs.Departed.{departed-arrivals, departed-queues}
-use Rattle.rules.proofs.KeptReporting.{stepped-of, others-stay}
+use Rattle.rules.proofs.KeptReporting.{stepped-of}
 
 -- the destination's health after a report of entry e, and whether it died
 abbrev pub healthBy : State → ℕ → ℕ → Outcome → Health
@@ -93,9 +93,9 @@ unfolding reporting reportedAt departed waitingOf waitsOf
 reported-waiting-settled w now e outcome j = refl
 
 module _ (w : State) (now e : ℕ) (outcome : Outcome) (shaped : Shaped w) (sound : Sound w) (inside : e < maxEntries) (busy : isBusy w e ≡ true) where
-  almost : AlmostSound (settledBy w now e outcome)
-  almost =
-      almost-settled w e (healthBy w now e outcome) (diedBy w now e outcome) shaped sound inside busy
+  besides : SoundBesides (transportOf w (destinationOf w e)) (settledBy w now e outcome)
+  besides =
+      sound-settled w e (healthBy w now e outcome) (diedBy w now e outcome) shaped sound inside busy
       (stepped-of w now (destinationOf w e) sound (reported-entry w e (healthBy w now e outcome) (diedBy w now e outcome) shaped sound inside busy .destination) outcome)
 
   settledShape : Shaped (settledBy w now e outcome)
@@ -159,7 +159,7 @@ module _ (w : State) (now e : ℕ) (outcome : Outcome) (shaped : Shaped w) (soun
   pub reported-queue : (u : ℕ) → u < w .setup .transports → queueOf (reportedBy w now e outcome) u ≡ keep (isPresent (reportedBy w now e outcome)) (queueOf w u)
   unfolding reporting reportedAt
   reported-queue u l =
-      departed-queues (settledBy w now e outcome) (transportOf w (destinationOf w e)) settledShape below-four (others-stay w e (healthBy w now e outcome) (diedBy w now e outcome) shaped sound inside busy) u (almost .queues u (rw settled-transports l))
+      departed-queues (settledBy w now e outcome) (transportOf w (destinationOf w e)) settledShape below-four (besides .used) u (besides .queues u (rw settled-transports l))
       ∙ keep-same (stays (settledBy w now e outcome)) (isPresent (reportedBy w now e outcome)) (queueOf (settledBy w now e outcome) u) (λ x h. sym (reported-present x)) ∙ ap (keep (isPresent (reportedBy w now e outcome))) (settled-queues u)
 
   pub reported-arrivals : listOf ((reportedBy w now e outcome) .arrivals) ≡ keep (isPresent (reportedBy w now e outcome)) (listOf (w .arrivals))

@@ -1,6 +1,7 @@
 -- The shape of a state: each column has as many places as its array.
 use Prim.Native.Nat.{ℕ, _<_}
-use mathlib.Core.Path.{_≡_}
+use mathlib.Core.Path.{_≡_, ap}
+use mathlib.Core.List.{List, [], _∷_}
 use lib.ListN.{length, getD}
 use Rattle.rules.specs.declared.JobList.{JobList}
 use Rattle.rules.specs.declared.Busy.{Busy}
@@ -8,26 +9,74 @@ use Rattle.rules.specs.declared.Jobs.{Jobs}
 use Rattle.rules.specs.declared.Entries.{Entries}
 use Rattle.rules.specs.declared.State.{State}
 use Rattle.rules.specs.Sizes.{maxTransports, maxDestinations, maxJobs, maxEntries}
-use Rattle.rules.specs.State.{zeroList}
+use Rattle.rules.specs.State.{at, zeroList}
+use Rattle.rules.specs.Setup.{noJobs}
 
 pub record BusyShaped (b : Busy) : Type 0 where
   pub transport : length (b .transport) ≡ maxTransports
   pub destination : length (b .destination) ≡ maxDestinations
 
+-- the lengths of the jobs' columns
+abbrev pub lengthsOf : Jobs → List ℕ
+lengthsOf g =
+    length (g .present)
+    ∷ length (g .transport)
+    ∷ length (g .n)
+    ∷ length (g .picked)
+    ∷ length (g .dropped)
+    ∷ length (g .sold)
+    ∷ length (g .parent)
+    ∷ length (g .preempted)
+    ∷ length (g .arrival)
+    ∷ length (g .overtakers)
+    ∷ length (g .turn)
+    ∷ length (g .places)
+    ∷ length (g .order)
+    ∷ []
+
+-- they are those of the empty columns
 pub record JobsShaped (g : Jobs) : Type 0 where
-  pub present : length (g .present) ≡ maxJobs
-  pub transport : length (g .transport) ≡ maxJobs
-  pub n : length (g .n) ≡ maxJobs
-  pub picked : length (g .picked) ≡ maxJobs
-  pub dropped : length (g .dropped) ≡ maxJobs
-  pub sold : length (g .sold) ≡ maxJobs
-  pub parent : length (g .parent) ≡ maxJobs
-  pub preempted : length (g .preempted) ≡ maxJobs
-  pub arrival : length (g .arrival) ≡ maxJobs
-  pub overtakers : length (g .overtakers) ≡ maxJobs
-  pub turn : length (g .turn) ≡ maxJobs
-  pub places : length (g .places) ≡ maxJobs
-  pub order : length (g .order) ≡ 1024
+  pub lengths : lengthsOf g ≡ lengthsOf noJobs
+
+module _ {g : Jobs} (h : JobsShaped g) where
+  pub present-length : length (g .present) ≡ maxJobs
+  present-length = ap (λ l. at l 0) (h .lengths)
+
+  pub transport-length : length (g .transport) ≡ maxJobs
+  transport-length = ap (λ l. at l 1) (h .lengths)
+
+  pub n-length : length (g .n) ≡ maxJobs
+  n-length = ap (λ l. at l 2) (h .lengths)
+
+  pub picked-length : length (g .picked) ≡ maxJobs
+  picked-length = ap (λ l. at l 3) (h .lengths)
+
+  pub dropped-length : length (g .dropped) ≡ maxJobs
+  dropped-length = ap (λ l. at l 4) (h .lengths)
+
+  pub sold-length : length (g .sold) ≡ maxJobs
+  sold-length = ap (λ l. at l 5) (h .lengths)
+
+  pub parent-length : length (g .parent) ≡ maxJobs
+  parent-length = ap (λ l. at l 6) (h .lengths)
+
+  pub preempted-length : length (g .preempted) ≡ maxJobs
+  preempted-length = ap (λ l. at l 7) (h .lengths)
+
+  pub arrival-length : length (g .arrival) ≡ maxJobs
+  arrival-length = ap (λ l. at l 8) (h .lengths)
+
+  pub overtakers-length : length (g .overtakers) ≡ maxJobs
+  overtakers-length = ap (λ l. at l 9) (h .lengths)
+
+  pub turn-length : length (g .turn) ≡ maxJobs
+  turn-length = ap (λ l. at l 10) (h .lengths)
+
+  pub places-length : length (g .places) ≡ maxJobs
+  places-length = ap (λ l. at l 11) (h .lengths)
+
+  pub order-length : length (g .order) ≡ 1024
+  order-length = ap (λ l. at l 12) (h .lengths)
 
 pub record EntriesShaped (e : Entries) : Type 0 where
   pub kind : length (e .kind) ≡ maxEntries

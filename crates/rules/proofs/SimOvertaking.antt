@@ -23,7 +23,7 @@ use Rattle.rules.specs.State.{at, isPresent, parentOf}
 use Rattle.rules.specs.SoundFacts.{Sound}
 use Rattle.rules.specs.Preemption.{preempting, charged, addedTo}
 use Rattle.rules.specs.Tally.{Tally, rowAt, rowOf}
-use Rattle.rules.proofs.Shape.{Shaped}
+use Rattle.rules.proofs.Shape.{Shaped, overtakers-length}
 use Rattle.rules.proofs.EntryFacts.{present-below}
 use Rattle.rules.proofs.KeptPreempting.{parent-present, chain-ends}
 use Rattle.rules.proofs.Sim.{costIn, presentRow, jobLink, JobIs, Sim}
@@ -94,7 +94,7 @@ module _ {u : Setup} {w : State} {y : Tally} {g : Columns} (m : Sim u w y g) (sh
         along-at (parentOf w) jobDepth (addedTo k) at (λ v. min (v + k) sumLimit) (λ z. isPresent w z ≡ true) (λ l. length l ≡ 32)
         (λ z v h e. parent-present w shaped sound z v h e) parent-deeper (λ z l h e. length-set l z _ ∙ e)
         (λ z l h e. getD-set-same l z _ 0 (subst (λ n. z < n) (sym e) (present-below w shaped z h))) (λ z v l h e ne. getD-set-other l z v _ 0 ne) 32 (suc b)
-        (w .jobs .overtakers) (λ z q. subst (λ z. isPresent w z ≡ true) (suc-inj q) here) (shaped .jobs .overtakers) z
+        (w .jobs .overtakers) (λ z q. subst (λ z. isPresent w z ≡ true) (suc-inj q) here) (overtakers-length (shaped .jobs)) z
 
     -- The walk up the names.
 

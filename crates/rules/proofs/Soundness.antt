@@ -21,7 +21,7 @@ use Rattle.rules.specs.State.{at, settingsFor, transportOf, healthOf, ze
 use Rattle.rules.specs.Setup.{setupInRange}
 use Rattle.rules.specs.Sound.{implies, belongs, entrySound, busyOn, busyTo, busySound, isJobOn, queueSound, arrivalsSound, jobSound, healthSound, sound}
 use Rattle.rules.specs.SoundFacts.{EntrySound, QueueSound, ArrivalsSound, LiveSound, DestinationSound, Sound}
-use Rattle.rules.proofs.JobFacts.{job-facts, job-of}
+use Rattle.rules.proofs.JobFacts.{job-facts, job-used, job-of}
 use Rattle.rules.proofs.RangeFacts.{implies-at, implies-of, in-range-facts, in-range-of, sums-fit-facts, sums-fit-of}
 
 module _ (s : State) where
@@ -168,6 +168,7 @@ module _ (s : State) where
         queues = λ t l. queue-facts t (all-at (queueSound s) (s .setup .transports) (f .3) t l);
         arrivals = arrivals-facts (f .4);
         jobs = λ j l k. job-facts s j (implies-at (all-at rightJob maxJobs (f .5) j l) k);
+        used = λ j l k. job-used s j (implies-at (all-at rightJob maxJobs (f .5) j l) k);
         destinations = λ d l. destination-facts d (all-at rightHealth (s .setup .destinations) (f .6) d l);
         turn = leb-true (s .turn) (s .setup .transports) (f .7);
       }
@@ -192,7 +193,7 @@ module _ (s : State) where
       (and-both (and-both (in-range-of (s .setup) (r .setup)) (all-from (entrySound s) maxEntries λ e l. entry-of e (r .entries e l))) (busy-of r))
       (all-from (queueSound s) (s .setup .transports) λ t l. queue-of t (r .queues t l)))
       (arrivals-of (r .arrivals)))
-      (all-from rightJob maxJobs λ j l. implies-of (isPresent s j) λ k. job-of s j (r .jobs j l k)))
+      (all-from rightJob maxJobs λ j l. implies-of (isPresent s j) λ k. job-of s j (r .jobs j l k) (r .used j l k)))
       (all-from rightHealth (s .setup .destinations) λ d l. destination-of d (healthOf s d) refl (r .destinations d l)))
       (le-leb (s .turn) (s .setup .transports) (r .turn))
 

@@ -27,15 +27,8 @@ use Rattle.rules.specs.Sound.{orderOf}
 use Rattle.rules.specs.SoundFacts.{Sound}
 use Rattle.rules.specs.Taking.{isDead, keptOf, nOf, newNumber, freePlaces, newOrder, taken}
 use Rattle.rules.specs.Refusals.{isDestinationOn, lacksNumber, lacksPlaces}
-use Rattle.rules.proofs.Shape.{Shaped}
+use Rattle.rules.proofs.Shape.{Shaped, present-length, transport-length, n-length, picked-length, dropped-length, sold-length, parent-length, preempted-length, arrival-length, overtakers-length, turn-length, places-length, order-length}
 use Rattle.rules.proofs.Filled.{amongFirst, among-passes, filled-chosen, with-order-at, with-order-other}
-
--- a present job's number is below 32
-pub present-below : (s : State) → Shaped s → (j : ℕ) → isPresent s j ≡ true → j < maxJobs
-present-below s h j p = elim (decLt j 32) [
-  | yes l ↦ l
-  | no l ↦ true-not-false p (List·getD-eq-default (s .jobs .present) false (let e = h .jobs .present in omega arith))
-]
 
 -- a job j with these destinations fits into w, on transport t
 pub record Fits (w : State) (j t : ℕ) (kept : List ℕ) : Type 0 where
@@ -203,29 +196,29 @@ module _ (w : State) (j t now : ℕ) (kept : List ℕ) (shaped : Shaped w) (soun
       let g = shaped .jobs in
       let l = fits .number in
       record {
-        present = getD-set-same (w .jobs .present) j true false (rw (g .present) l);
-        transport = getD-set-same (w .jobs .transport) j t 0 (rw (g .transport) l);
-        n = getD-set-same (w .jobs .n) j (length kept) 0 (rw (g .n) l);
-        picked = getD-set-same (w .jobs .picked) j 0 0 (rw (g .picked) l);
-        dropped = getD-set-same (w .jobs .dropped) j 0 0 (rw (g .dropped) l);
-        sold = getD-set-same (w .jobs .sold) j 0 0 (rw (g .sold) l);
-        parent = getD-set-same (w .jobs .parent) j 0 0 (rw (g .parent) l);
-        preempted = getD-set-same (w .jobs .preempted) j false false (rw (g .preempted) l);
-        arrival = getD-set-same (w .jobs .arrival) j now 0 (rw (g .arrival) l);
-        overtakers = getD-set-same (w .jobs .overtakers) j 0 0 (rw (g .overtakers) l);
-        turn = getD-set-same (w .jobs .turn) j 0 0 (rw (g .turn) l);
-        places = getD-set-same (w .jobs .places) j (length (newOrder kept)) 0 (rw (g .places) l);
+        present = getD-set-same (w .jobs .present) j true false (rw (present-length g) l);
+        transport = getD-set-same (w .jobs .transport) j t 0 (rw (transport-length g) l);
+        n = getD-set-same (w .jobs .n) j (length kept) 0 (rw (n-length g) l);
+        picked = getD-set-same (w .jobs .picked) j 0 0 (rw (picked-length g) l);
+        dropped = getD-set-same (w .jobs .dropped) j 0 0 (rw (dropped-length g) l);
+        sold = getD-set-same (w .jobs .sold) j 0 0 (rw (sold-length g) l);
+        parent = getD-set-same (w .jobs .parent) j 0 0 (rw (parent-length g) l);
+        preempted = getD-set-same (w .jobs .preempted) j false false (rw (preempted-length g) l);
+        arrival = getD-set-same (w .jobs .arrival) j now 0 (rw (arrival-length g) l);
+        overtakers = getD-set-same (w .jobs .overtakers) j 0 0 (rw (overtakers-length g) l);
+        turn = getD-set-same (w .jobs .turn) j 0 0 (rw (turn-length g) l);
+        places = getD-set-same (w .jobs .places) j (length (newOrder kept)) 0 (rw (places-length g) l);
       }
 
   order-there : (i : ℕ) → i < length (newOrder kept) → at (newOrder kept) i ≡ orderAt (taken w j t now kept) j i
   unfolding taken
   order-there i l =
       let b = new-order-few in
-      sym (with-order-at (w .jobs .order) j (newOrder kept) (shaped .jobs .order) (fits .number) new-order-few i (omega arith))
+      sym (with-order-at (w .jobs .order) j (newOrder kept) (order-length (shaped .jobs)) (fits .number) new-order-few i (omega arith))
 
   order-off : (k : ℕ) → k ≢ j → (i : ℕ) → i < maxDestinations → orderAt (taken w j t now kept) k i ≡ orderAt w k i
   unfolding taken
-  order-off k ne i l = with-order-other (w .jobs .order) j (newOrder kept) (shaped .jobs .order) (fits .number) new-order-few k i ne l
+  order-off k ne i l = with-order-other (w .jobs .order) j (newOrder kept) (order-length (shaped .jobs)) (fits .number) new-order-few k i ne l
 
   pub taken-order-new : orderOf (taken w j t now kept) j ≡ newOrder kept
   unfolding orderOf

@@ -78,7 +78,6 @@ module _ (w : State) (j t now : ℕ) (kept : List ℕ) (shaped : Shaped w) (soun
         complete = rw o new-covers;
         sold = rw (g .sold, mul-zero) (omega arith);
         unsold = λ z. g .sold;
-        used = new-used;
         parent = λ p e. let q = g .parent in absurd (omega arith);
         ends = rw (g .parent) (ends-zero (parentOf (taken w j t now kept)) 32);
         overtakers = rw (g .overtakers) (omega arith);
@@ -140,7 +139,6 @@ module _ (w : State) (j t now : ℕ) (kept : List ℕ) (shaped : Shaped w) (soun
             rw (o, r .destination) (h .complete e l (sym (same-used w (taken w j t now kept) e r k) ∙ u));
         sold = rw (cost-other k ne, g .sold, g .n) (h .sold);
         unsold = λ z. g .sold ∙ h .unsold (sym (cost-other k ne) ∙ z);
-        used = any-imp (usedOf w k) (usedOf (taken w j t now kept) k) maxEntries (used-before k) (h .used);
         parent = λ p e. child-other k p ne (h .parent p (sym (g .parent) ∙ e));
         ends = rw (g .parent) (ends-cut (parentOf w) (parentOf (taken w j t now kept)) parent-cut 32 (parentOf w k) (h .ends));
         overtakers = rw (g .overtakers) (h .overtakers);
@@ -151,4 +149,12 @@ module _ (w : State) (j t now : ℕ) (kept : List ℕ) (shaped : Shaped w) (soun
   jobs-taken k l h = elim (ℕ-discrete k j) [
     | yes e ↦ subst (JobSound (taken w j t now kept)) (sym e) job-new
     | no ne ↦ job-other k ne (sound .jobs k l (sym (taken-others w j t now kept shaped sound fits k ne .present) ∙ h))
+  ]
+
+  pub used-taken : (k : ℕ) → k < maxJobs → isPresent (taken w j t now kept) k ≡ true → anyTo (usedOf (taken w j t now kept) k) maxEntries ≡ true
+  used-taken k l h = elim (ℕ-discrete k j) [
+    | yes e ↦ subst (λ k. anyTo (usedOf (taken w j t now kept) k) maxEntries ≡ true) (sym e) new-used
+    | no ne ↦
+        any-imp (usedOf w k) (usedOf (taken w j t now kept) k) maxEntries (used-before k)
+        (sound .used k l (sym (taken-others w j t now kept shaped sound fits k ne .present) ∙ h))
   ]

@@ -1,5 +1,6 @@
 pub mod Sizes
 pub mod State
+pub mod Changed
 pub mod Setup
 pub mod Windows
 pub mod Sound

@@ -10,6 +10,7 @@ use Rattle.rules.specs.declared.Entries.{Entries}
 use Rattle.rules.specs.declared.State.{State}
 use Rattle.rules.specs.Sizes.{tickets}
 use Rattle.rules.specs.State.{at, transportOf, destinationOf, waitingOf}
+use Rattle.rules.specs.Changed.{atTurn, onBusy, onJobs, onEntries, onPicked, onTurn, withKinds}
 use Rattle.rules.specs.Picking.{finds, nextTransport, currentJob, passedOver, nextPlace, nextEntry}
 use Rattle.rules.specs.Preemption.{preemptorOf, preempting}
 
@@ -28,26 +29,7 @@ pub record Found : Type 0 where
   pub preempted : Preemption
 
 abbrev pub pickedJobs : Jobs → ℕ → ℕ → Jobs
-pickedJobs g j place =
-    record {
-      present = g .present;
-      transport = g .transport;
-      n = g .n;
-      picked = set (g .picked) j (at (g .picked) j + 1);
-      dropped = g .dropped;
-      sold = g .sold;
-      parent = g .parent;
-      preempted = g .preempted;
-      arrival = g .arrival;
-      overtakers = g .overtakers;
-      turn = set (g .turn) j (place + 1);
-      places = g .places;
-      order = g .order;
-    }
-
-abbrev pub pickedEntries : Entries → ℕ → ℕ → Entries
-pickedEntries g e ticket =
-    record { kind = set (g .kind) e 2; job = g .job; destination = g .destination; ticket = set (g .ticket) e ticket }
+pickedJobs g j place = onPicked (λ picked. set picked j (at picked j + 1)) (onTurn (λ turn. set turn j (place + 1)) g)
 
 abbrev pub oneMoreBusy : Busy → ℕ → ℕ → Busy
 oneMoreBusy b t d =
@@ -59,18 +41,10 @@ oneMoreBusy b t d =
 -- entry e of job j, at this place of its destination order, is handed out on transport t: "Every pick issues a ticket"
 unfoldable pub handedOut : State → ℕ → ℕ → ℕ → ℕ → State
 handedOut s t j place e =
-    record {
-      setup = s .setup;
-      clock = s .clock;
-      ticket = (s .ticket + 1) % tickets;
-      turn = t + 1;
-      destinations = s .destinations;
-      busy = oneMoreBusy (s .busy) t (destinationOf s e);
-      queues = s .queues;
-      arrivals = s .arrivals;
-      jobs = pickedJobs (s .jobs) j place;
-      entries = pickedEntries (s .entries) e (s .ticket);
-    }
+    atTurn ((s .ticket + 1) % tickets) (t + 1)
+    (onBusy (λ b. oneMoreBusy b t (destinationOf s e))
+    (onJobs (λ g. pickedJobs g j place)
+    (onEntries (λ g. withKinds g (set (g .kind) e 2) (set (g .ticket) e (s .ticket))) s)))
 
 -- what is picked, and the state after it: from the current job y, or from the job that preempts it
 pub record Picked : Type 0 where

@@ -14,6 +14,7 @@ use Rattle.rules.specs.declared.Jobs.{Jobs}
 use Rattle.rules.specs.declared.State.{State}
 use Rattle.rules.specs.Sizes.{maxJobs, sumLimit}
 use Rattle.rules.specs.State.{at, settingsOf, listOf, listed, queueOf, hasPreempted, waitingOf, parentOf}
+use Rattle.rules.specs.Changed.{onQueue, onJobs, onSold, onParent, onPreempted, onOvertakers}
 use Rattle.rules.specs.Picking.{hasEligible}
 
 -- "a = s - c·q, which may be negative": picked s, sold q
@@ -98,36 +99,14 @@ addedTo m j sums = set sums j (min (at sums j + m) sumLimit)
 unfoldable pub charged : (ℕ → ℕ) → ℕ → ℕ → List ℕ → List ℕ
 charged parent y m sums = alongChain parent (addedTo m) maxJobs (suc y) sums
 
-abbrev pub preemptingJobs : Jobs → (ℕ → ℕ) → ℕ → ℕ → ℕ → Jobs
-preemptingJobs g parent x y m =
-    record {
-      present = g .present;
-      transport = g .transport;
-      n = g .n;
-      picked = g .picked;
-      dropped = g .dropped;
-      sold = set (g .sold) y (at (g .sold) y + m);
-      parent = set (g .parent) x (suc y);
-      preempted = set (g .preempted) x true;
-      arrival = g .arrival;
-      overtakers = charged parent y m (g .overtakers);
-      turn = g .turn;
-      places = g .places;
-      order = g .order;
-    }
-
 -- "It moves directly before the current job, whose q grows by m, takes it as parent": x, of m waiting entries, preempts y
 unfoldable pub preempting : State → ℕ → ℕ → ℕ → ℕ → State
 preempting s t x y m =
-    record {
-      setup = s .setup;
-      clock = s .clock;
-      ticket = s .ticket;
-      turn = s .turn;
-      destinations = s .destinations;
-      busy = s .busy;
-      queues = set (s .queues) t (listed (moveBefore x y (queueOf s t)));
-      arrivals = s .arrivals;
-      jobs = preemptingJobs (s .jobs) (parentOf s) x y m;
-      entries = s .entries;
-    }
+    onQueue t (moveBefore x y)
+    (onJobs
+    (λ g.
+    onSold (λ sold. set sold y (at sold y + m))
+    (onParent (λ parent. set parent x (suc y))
+    (onPreempted (λ preempted. set preempted x true)
+    (onOvertakers (charged (parentOf s) y m) g))))
+    s)

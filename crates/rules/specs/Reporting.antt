@@ -19,6 +19,7 @@ use Rattle.rules.specs.declared.Outcome.the-variants.{Success, Failure}
 use Rattle.rules.specs.Sizes.{maxJobs, maxEntries}
 use Rattle.rules.specs.State.{at, transportOf, settingsFor, healthOf, isLive, listOf, listed, queueOf, isWaiting, jobOf, destinationOf, isPresent}
 use Rattle.rules.specs.State.{usedOf, parentOf}
+use Rattle.rules.specs.Changed.{onDestinations, onBusy, onQueue, onArrivals, onJobs, onEntries, onPresent, onDropped, onParent, withKinds}
 use Rattle.rules.specs.Windows.{afterSuccess, afterFailure}
 
 -- "busy still counting this delivery"
@@ -46,24 +47,6 @@ putOffOf s died d j = countTo (λ e. isPutOff s died d e && eqb (jobOf s e) j) m
 unfoldable pub kindAfter : State → Bool → ℕ → ℕ → ℕ → ℕ
 kindAfter s died d e i = if eqb i e then 0 else if isPutOff s died d i then 0 else at (s .entries .kind) i
 
-abbrev pub droppingJobs : Jobs → List ℕ → Jobs
-droppingJobs g dropped =
-    record {
-      present = g .present;
-      transport = g .transport;
-      n = g .n;
-      picked = g .picked;
-      dropped = dropped;
-      sold = g .sold;
-      parent = g .parent;
-      preempted = g .preempted;
-      arrival = g .arrival;
-      overtakers = g .overtakers;
-      turn = g .turn;
-      places = g .places;
-      order = g .order;
-    }
-
 abbrev pub oneLessBusy : Busy → ℕ → ℕ → Busy
 oneLessBusy b t d =
     record {
@@ -74,24 +57,10 @@ oneLessBusy b t d =
 -- entry e, to destination d, is free again, and d's waiting entries are put off where it died
 unfoldable pub settled : State → ℕ → ℕ → Health → Bool → State
 settled s e d health died =
-    record {
-      setup = s .setup;
-      clock = s .clock;
-      ticket = s .ticket;
-      turn = s .turn;
-      destinations = set (s .destinations) d (record { health = health });
-      busy = oneLessBusy (s .busy) (transportOf s d) d;
-      queues = s .queues;
-      arrivals = s .arrivals;
-      jobs = droppingJobs (s .jobs) (tableTo (λ j. at (s .jobs .dropped) j + putOffOf s died d j) maxJobs);
-      entries =
-          record {
-            kind = tableTo (kindAfter s died d e) maxEntries;
-            job = s .entries .job;
-            destination = s .entries .destination;
-            ticket = s .entries .ticket;
-          };
-    }
+    onDestinations (λ ds. set ds d (record { health = health }))
+    (onBusy (λ b. oneLessBusy b (transportOf s d) d)
+    (onJobs (onDropped (λ dropped. tableTo (λ j. at dropped j + putOffOf s died d j) maxJobs))
+    (onEntries (λ g. withKinds g (tableTo (kindAfter s died d e) maxEntries) (g .ticket)) s)))
 
 -- "Every job then without a waiting or busy entry leaves": the others stay
 unfoldable pub stays : State → ℕ → Bool
@@ -105,39 +74,12 @@ nearestStaying s j = firstAlong (stays s) (parentOf s) maxJobs (parentOf s j)
 unfoldable pub parentAfter : State → ℕ → ℕ
 parentAfter s j = if stays s j then nearestStaying s j else parentOf s j
 
-abbrev pub remainingJobs : Jobs → List Bool → List ℕ → Jobs
-remainingJobs g present parent =
-    record {
-      present = present;
-      transport = g .transport;
-      n = g .n;
-      picked = g .picked;
-      dropped = g .dropped;
-      sold = g .sold;
-      parent = parent;
-      preempted = g .preempted;
-      arrival = g .arrival;
-      overtakers = g .overtakers;
-      turn = g .turn;
-      places = g .places;
-      order = g .order;
-    }
-
 -- the jobs that do not stay have left. A report ends entries of one transport t only, so they are t's; "ranks close up when one leaves"
 unfoldable pub departed : State → ℕ → State
 departed s t =
-    record {
-      setup = s .setup;
-      clock = s .clock;
-      ticket = s .ticket;
-      turn = s .turn;
-      destinations = s .destinations;
-      busy = s .busy;
-      queues = set (s .queues) t (listed (keep (stays s) (queueOf s t)));
-      arrivals = listed (keep (stays s) (listOf (s .arrivals)));
-      jobs = remainingJobs (s .jobs) (tableTo (stays s) maxJobs) (tableTo (parentAfter s) maxJobs);
-      entries = s .entries;
-    }
+    onQueue t (keep (stays s))
+    (onArrivals (keep (stays s))
+    (onJobs (λ g. onPresent (λ present. tableTo (stays s) maxJobs) (onParent (λ parent. tableTo (parentAfter s) maxJobs) g)) s))
 
 -- the put-off entries and the state after a report of entry e
 pub record Reported : Type 0 where

@@ -1,7 +1,7 @@
 -- Soundness as plain facts: `Sound s` says of a state what the test `sound` computes. proofs/Soundness.antt has the law both ways.
 use Prim.Native.Nat.{ℕ, suc, _+_, _*_, _≤_, _<_}
 use mathlib.Core.Path.{_≡_}
-use mathlib.Core.Logic.{_⊎_}
+use mathlib.Core.Logic.{_⊎_, _≢_}
 use mathlib.Core.Bool.{Bool, true, false, _&&_}
 use lib.ListN.{getD}
 use lib.Dec.{eqb}
@@ -50,7 +50,7 @@ pub record ChildOf (s : State) (j p : ℕ) : Type 0 where
   pub picked : 1 ≤ at (s .jobs .picked) p
   pub marked : hasPreempted s j ≡ true
 
--- of a present job
+-- of a present job, but that it has a waiting or busy entry
 pub record JobSound (s : State) (j : ℕ) : Type 0 where
   pub adds : waitingOf s j + at (s .jobs .picked) j + at (s .jobs .dropped) j ≡ at (s .jobs .n) j
   pub n : (1 ≤ at (s .jobs .n) j) × (at (s .jobs .n) j ≤ maxLength)
@@ -60,7 +60,6 @@ pub record JobSound (s : State) (j : ℕ) : Type 0 where
   pub complete : (e : ℕ) → e < maxEntries → usedOf s j e ≡ true → holds (destinationOf s e) (orderOf s j) ≡ true
   pub sold : costOf s j * at (s .jobs .sold) j ≤ at (s .jobs .n) j
   pub unsold : costOf s j ≡ 0 → at (s .jobs .sold) j ≡ 0
-  pub used : anyTo (usedOf s j) maxEntries ≡ true
   pub parent : (p : ℕ) → parentOf s j ≡ suc p → ChildOf s j p
   pub ends : endsIn (parentOf s) 32 (parentOf s j) ≡ true
   pub overtakers : at (s .jobs .overtakers) j ≤ sumLimit
@@ -76,7 +75,8 @@ pub record DestinationSound (s : State) (d : ℕ) : Type 0 where
   pub live : (u : Sums) → healthOf s d ≡ Live u → LiveSound (settingsFor s d) u
   pub dead : (end : ℕ) → healthOf s d ≡ Dead end → (e : ℕ) → e < maxEntries → isWaiting s e ≡ true → destinationOf s e ≡ d → ⊥
 
-pub record Sound (s : State) : Type 0 where
+-- of a state in which the present jobs have the entries that HasEntry says
+pub record SoundWhere (s : State) (HasEntry : ℕ → Type 0) : Type 0 where
   pub setup : InRange (s .setup)
   pub entries : (e : ℕ) → e < maxEntries → isFree s e ≡ false → EntrySound s e
   pub busyTransport : (t : ℕ) → t < s .setup .transports → at (s .busy .transport) t ≡ countTo (busyOn s t) maxEntries
@@ -84,5 +84,13 @@ pub record Sound (s : State) : Type 0 where
   pub queues : (t : ℕ) → t < s .setup .transports → QueueSound s t
   pub arrivals : ArrivalsSound s
   pub jobs : (j : ℕ) → j < maxJobs → isPresent s j ≡ true → JobSound s j
+  pub used : (j : ℕ) → j < maxJobs → isPresent s j ≡ true → HasEntry j
   pub destinations : (d : ℕ) → d < s .setup .destinations → DestinationSound s d
   pub turn : s .turn ≤ s .setup .transports
+
+-- "each job has a waiting or busy entry"; in the midst of a report those of one transport may not
+abbrev pub Sound : State → Type 0
+Sound s = SoundWhere s (λ j. anyTo (usedOf s j) maxEntries ≡ true)
+
+abbrev pub SoundBesides : ℕ → State → Type 0
+SoundBesides t s = SoundWhere s (λ j. at (s .jobs .transport) j ≢ t → anyTo (usedOf s j) maxEntries ≡ true)

@@ -11,7 +11,8 @@ use Rattle.rules.specs.declared.Jobs.{Jobs}
 use Rattle.rules.specs.declared.Entries.{Entries}
 use Rattle.rules.specs.declared.State.{State}
 use Rattle.rules.specs.Sizes.{maxDestinations, maxJobs, maxEntries}
-use Rattle.rules.specs.State.{at, healthOf, isLive, listOf, listed, queueOf, isFree, isPresent}
+use Rattle.rules.specs.State.{at, healthOf, isLive, isFree, isPresent}
+use Rattle.rules.specs.Changed.{onQueue, onArrivals, onJobs, onEntries}
 
 -- "Its entries for dead destinations are put off at once"
 unfoldable pub isDead : State → ℕ → Bool
@@ -82,15 +83,6 @@ newEntries e places j kept =
 -- "A new job goes to the end of its transport's list"; its arrival rank is the last
 unfoldable pub taken : State → ℕ → ℕ → ℕ → List ℕ → State
 taken s j t now kept =
-    record {
-      setup = s .setup;
-      clock = s .clock;
-      ticket = s .ticket;
-      turn = s .turn;
-      destinations = s .destinations;
-      busy = s .busy;
-      queues = set (s .queues) t (listed (queueOf s t ++ (j ∷ [])));
-      arrivals = listed (listOf (s .arrivals) ++ (j ∷ []));
-      jobs = newJobs (s .jobs) j t now kept;
-      entries = newEntries (s .entries) (freePlaces s) j kept;
-    }
+    onQueue t (λ l. l ++ (j ∷ []))
+    (onArrivals (λ l. l ++ (j ∷ []))
+    (onJobs (λ g. newJobs g j t now kept) (onEntries (λ e. newEntries e (freePlaces s) j kept) s)))

@@ -16,6 +16,7 @@ use Rattle.rules.specs.declared.Destination.{Destination}
 use Rattle.rules.specs.declared.State.{State}
 use Rattle.rules.specs.Sizes.{U, maxDestinations}
 use Rattle.rules.specs.State.{at, zeroSettings, zeroDestination}
+use Rattle.rules.specs.Changed.{atClock, onDestinations}
 use Rattle.rules.specs.Setup.{firstState}
 
 -- "Feedback of p percent is p·U/100 flat, or p·U/(100·window) per window"
@@ -82,16 +83,4 @@ wokenAt ds u now d =
 
 -- "Once accepted, each first wakes destinations": the state with this clock as the last accepted one, and all of them woken
 unfoldable pub woken : State → ℕ → State
-woken s now =
-    record {
-      setup = s .setup;
-      clock = now;
-      ticket = s .ticket;
-      turn = s .turn;
-      destinations = tableTo (wokenAt (s .destinations) (s .setup) now) maxDestinations;
-      busy = s .busy;
-      queues = s .queues;
-      arrivals = s .arrivals;
-      jobs = s .jobs;
-      entries = s .entries;
-    }
+woken s now = atClock now (onDestinations (λ ds. tableTo (wokenAt ds (s .setup) now) maxDestinations) s)

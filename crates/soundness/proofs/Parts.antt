@@ -182,7 +182,7 @@ module _ (s : State) (table : List Bool) (r : EntryCounts) (tables : Tables (col
       (and-both
       (and-both (and-both (eq-eqb (w + picked + dropped) n (omega (arith, f .adds, waiting-is s table r tables j l))) (within-of (f .n))) (le-leb b picked (omega (arith, f .busy, busy-is s table r tables j l))))
       (and-both (le-leb (costOf s j * sold) n (f .sold)) (implies-of (eqb (costOf s j) 0) λ z. eq-eqb sold 0 (f .unsold (eqb-true (costOf s j) 0 z)))))
-      (le-leb 1 (w + b) (used-counted h j l (f .used))))
+      (le-leb 1 (w + b) (used-counted h j l (sound-facts s h .used j l p))))
       (child-of j (parentOf s j) (f .parent)))
       (f .ends))
       (le-leb (at (s .jobs .overtakers) j) 65_535 (f .overtakers)))

@@ -147,7 +147,7 @@ module _ (s : State) where
 
       module _ (entries : allTo (entryTest (columnsOf s table)) 512 ≡ true) (few : s .setup .destinations ≤ 32)
           (orders : allTo (λ j. implies (isPresent s j) (orderTest (s .jobs .order) j (at (s .jobs .places) j))) 32 ≡ true) where
-        job-facts : (j : ℕ) → j < 32 → isPresent s j ≡ true → jobTest (s .jobs) (s .setup .settings) (r .waiting) (r .busy) j ≡ true → JobSound s j
+        job-facts : (j : ℕ) → j < 32 → isPresent s j ≡ true → jobTest (s .jobs) (s .setup .settings) (r .waiting) (r .busy) j ≡ true → JobSound s j × (anyTo (usedOf s j) 512 ≡ true)
         unfolding jobTest countsTest soldTest
         job-facts j l p h =
             let w = at (r .waiting) j in
@@ -166,22 +166,23 @@ module _ (s : State) where
             let low = and-3 (counts && few-sold && leb 1 (w + b)) child ends (top .0) in
             let f = and-3 counts few-sold (leb 1 (w + b)) (low .0) in
             let c = and-3 (eqb (w + picked + dropped) n) (within 1 256 n) (leb b picked) (f .0) in
-            let unsold = implies (eqb (costOf s j) 0) (eqb sold 0) in
-            record {
-              adds = omega (arith, eqb-true (w + picked + dropped) n (c .0), waiting-is s table r tables j l);
-              n = within-facts (c .1);
-              busy = omega (arith, leb-true b picked (c .2), busy-is s table r tables j l);
-              places = order-facts orders j l p .0;
-              distinct = order-facts orders j l p .1;
-              complete = complete entries few j l p;
-              sold = leb-true (costOf s j * sold) n (and-left (leb (costOf s j * sold) n) unsold (f .1));
-              unsold = λ z. eqb-true sold 0 (implies-at (and-right (leb (costOf s j * sold) n) unsold (f .1)) (eq-eqb (costOf s j) 0 z));
-              used = counted-used j l (leb-true 1 (w + b) (f .2));
-              parent = child-facts j (parentOf s j) (low .1);
-              ends = low .2;
-              overtakers = leb-true (at (s .jobs .overtakers) j) 65_535 (top .1);
-              turn = leb-true (at (s .jobs .turn) j) (at (s .jobs .places) j) (top .2);
-            }
+            let unsold = implies (eqb (costOf s j) 0) (eqb sold 0) in (
+              record {
+                adds = omega (arith, eqb-true (w + picked + dropped) n (c .0), waiting-is s table r tables j l);
+                n = within-facts (c .1);
+                busy = omega (arith, leb-true b picked (c .2), busy-is s table r tables j l);
+                places = order-facts orders j l p .0;
+                distinct = order-facts orders j l p .1;
+                complete = complete entries few j l p;
+                sold = leb-true (costOf s j * sold) n (and-left (leb (costOf s j * sold) n) unsold (f .1));
+                unsold = λ z. eqb-true sold 0 (implies-at (and-right (leb (costOf s j * sold) n) unsold (f .1)) (eq-eqb (costOf s j) 0 z));
+                parent = child-facts j (parentOf s j) (low .1);
+                ends = low .2;
+                overtakers = leb-true (at (s .jobs .overtakers) j) 65_535 (top .1);
+                turn = leb-true (at (s .jobs .turn) j) (at (s .jobs .places) j) (top .2);
+              },
+              counted-used j l (leb-true 1 (w + b) (f .2)),
+            )
 
       -- Destinations.
 
@@ -234,7 +235,8 @@ module _ (s : State) where
                 eqb-true (at (s .busy .destination) d) (at (r .to) d) (all-at _ _ to d l) ∙ to-is s table r tables d (omega (arith, u .destinations .1));
             queues = queue-facts queues;
             arrivals = arrivals-facts arrivals rising;
-            jobs = λ j l p. job-facts entries (u .destinations .1) orders j l p (implies-at (all-at _ 32 jobs j l) p);
+            jobs = λ j l p. job-facts entries (u .destinations .1) orders j l p (implies-at (all-at _ 32 jobs j l) p) .0;
+            used = λ j l p. job-facts entries (u .destinations .1) orders j l p (implies-at (all-at _ 32 jobs j l) p) .1;
             destinations = λ d l.
                 health-facts d (omega (arith, u .destinations .1))
                 (all-at (destinationTest (s .setup) (s .destinations) (r .held)) (s .setup .destinations) (sym e ∙ t) d l);

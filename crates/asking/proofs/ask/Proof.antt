@@ -3,6 +3,7 @@ use mathlib.Core.Path.{refl, sym, _∙_, subst}
 use mathlib.Core.Bool.{false}
 use lib.ListN.{List·getD-eq-default}
 use borrow.Author.Tests.{not-true, not-false}
+use Rattle.rules.proofs.Shape.{present-length}
 use Rattle.columns.proofs.Shapes.{shaped}
 use Rattle.asking.proofs.AskReplies.{ask-unsound, ask-absent, ask-answered}
 use borrow.Author.Needs.{needs}
@@ -19,7 +20,7 @@ returns : tie.Need-returns
 returns c = ask-unsound (c .before .before .args .s) (c .before .before .args .job) (sym (c .before .sound .ensures) ∙ not-true _ (c .if1 .taken))
 
 returns-2 : tie.Need-returns-2
-returns-2 c = ask-absent (c .before .before .before .args .s) (c .before .before .before .args .job) (sym (c .before .before .sound .ensures) ∙ not-false _ (c .before .if1 .left)) (List·getD-eq-default (c .before .before .before .args .s .jobs .present) false (subst (λ n. n ≤ c .before .before .before .args .job) (sym (shaped (c .before .before .before .args .s) (c .before .before .before .good .0) .jobs .present)) (c .if2 .taken)))
+returns-2 c = ask-absent (c .before .before .before .args .s) (c .before .before .before .args .job) (sym (c .before .before .sound .ensures) ∙ not-false _ (c .before .if1 .left)) (List·getD-eq-default (c .before .before .before .args .s .jobs .present) false (subst (λ n. n ≤ c .before .before .before .args .job) (sym (present-length (shaped (c .before .before .before .args .s) (c .before .before .before .good .0) .jobs))) (c .if2 .taken)))
 
 element-copy-out-if3 : tie.Need-element-copy-out-if3
 element-copy-out-if3 c = search needs
