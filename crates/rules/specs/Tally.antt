@@ -75,50 +75,34 @@ newRow rows j t n =
 unfoldable pub withJob : Tally → ℕ → ℕ → ℕ → Tally
 withJob y j t n = record { rows = y .rows ++ (newRow (y .rows) j t n ∷ []); picks = y .picks; total = y .total }
 
+-- a row with these in the place of its own
+abbrev pub withNotes : Row → ℕ → ℕ → ℕ → ℕ → Row
+withNotes r overtakers names lastpick lasttotal =
+    record {
+      job = r .job;
+      transport = r .transport;
+      n = r .n;
+      upto = r .upto;
+      overtakers = overtakers;
+      names = names;
+      lastpick = lastpick;
+      lasttotal = lasttotal;
+    }
+
+abbrev pub onRow : ℕ → (Row → Row) → List Row → List Row
+onRow i f rows = set rows i (f (rowAt rows i))
+
 -- the overtakers of a row grow by m
 unfoldable pub overtakenBy : ℕ → ℕ → List Row → List Row
-overtakenBy m i rows =
-    set rows i
-    (record {
-      job = rowAt rows i .job;
-      transport = rowAt rows i .transport;
-      n = rowAt rows i .n;
-      upto = rowAt rows i .upto;
-      overtakers = rowAt rows i .overtakers + m;
-      names = rowAt rows i .names;
-      lastpick = rowAt rows i .lastpick;
-      lasttotal = rowAt rows i .lasttotal;
-    })
+overtakenBy m i rows = onRow i (λ r. withNotes r (r .overtakers + m) (r .names) (r .lastpick) (r .lasttotal)) rows
 
 -- "X's row names Y's for good"
 unfoldable pub naming : ℕ → ℕ → List Row → List Row
-naming i link rows =
-    set rows i
-    (record {
-      job = rowAt rows i .job;
-      transport = rowAt rows i .transport;
-      n = rowAt rows i .n;
-      upto = rowAt rows i .upto;
-      overtakers = rowAt rows i .overtakers;
-      names = link;
-      lastpick = rowAt rows i .lastpick;
-      lasttotal = rowAt rows i .lasttotal;
-    })
+naming i link rows = onRow i (λ r. withNotes r (r .overtakers) link (r .lastpick) (r .lasttotal)) rows
 
 -- "The picked job's row notes both as its last pick"
 unfoldable pub noting : ℕ → ℕ → ℕ → List Row → List Row
-noting i picks total rows =
-    set rows i
-    (record {
-      job = rowAt rows i .job;
-      transport = rowAt rows i .transport;
-      n = rowAt rows i .n;
-      upto = rowAt rows i .upto;
-      overtakers = rowAt rows i .overtakers;
-      names = rowAt rows i .names;
-      lastpick = picks;
-      lasttotal = total;
-    })
+noting i picks total rows = onRow i (λ r. withNotes r (r .overtakers) (r .names) picks total) rows
 
 -- "the overtakers of Y's row, of the row that one names, and so on, each grow by m"
 unfoldable pub overtaken : ℕ → ℕ → List Row → List Row
