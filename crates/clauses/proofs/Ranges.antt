@@ -6,8 +6,7 @@ use lib.ListN.{getD}
 use Rattle.rules.specs.declared.Setup.{Setup}
 use Rattle.rules.specs.State.{at, zeroSettings}
 use Rattle.rules.specs.Setup.{setupInRange}
-use Rattle.rules.proofs.RangeFacts.{in-range-facts}
-use Rattle.rules.proofs.WindowLaws.{windows-range}
+use Rattle.rules.proofs.RangeFacts.{windows-range, in-range-facts}
 
 module _ (u : Setup) (r : setupInRange u ≡ true) where
   pub transports-few : u .transports ≤ 4

@@ -17,10 +17,10 @@ fn within(low: u64, high: u64, x: u64) -> bool
     (low <= x) & (x <= high)
 }
 
-fn feedback_in_range(f: Feedback) -> bool
-    ensures { λ r. ⌜ r ≡ feedbackInRange f ⌝ }
+fn feedback_in_range(least: u64, f: Feedback) -> bool
+    ensures { λ r. ⌜ r ≡ feedbackInRange least f ⌝ }
 {
-    within(0, 100, f.percent) & within(0, 1, f.form)
+    within(least, 100, f.percent) & within(0, 1, f.form)
 }
 
 fn slots_in_range(g: Settings) -> bool
@@ -40,8 +40,8 @@ fn windows_in_range(g: Settings) -> bool
     let negative = g.negative;
     within(1, 20, g.limit)
         & within(1, g.limit, g.initial)
-        & feedback_in_range(positive)
-        & feedback_in_range(negative)
+        & feedback_in_range(0, positive)
+        & feedback_in_range(0, negative)
         & within(1, 100, g.cohortlimit)
         & within(1, 86400, g.suspension)
 }

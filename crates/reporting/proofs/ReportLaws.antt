@@ -19,7 +19,6 @@ use Rattle.rules.specs.declared.Health.the-variants.{Live, Dead}
 use Rattle.rules.specs.declared.Destination.{Destination}
 use Rattle.rules.specs.declared.JobList.{JobList}
 use Rattle.rules.specs.declared.Outcome.{Outcome}
-use Rattle.rules.specs.declared.Outcome.the-variants.{Success, Failure}
 use Rattle.rules.specs.declared.State.{State}
 use Rattle.rules.specs.Sizes.{maxTransports, maxDestinations, maxJobs, maxEntries}
 use Rattle.rules.specs.State.{at, settingsFor, transportOf, healthOf, isLive, zeroDestination, zeroList, listOf, listed, queueOf, jobOf, destinationOf, isPresent, usedOf}
@@ -27,7 +26,7 @@ use Rattle.rules.specs.Setup.{settingsInRange, setupInRange}
 use Rattle.rules.specs.Sound.{sound, busyOn, busyTo}
 use Rattle.rules.specs.Changed.{onPresent, onDropped, onParent}
 use Rattle.rules.specs.SoundFacts.{LiveSound, EntrySound, Sound}
-use Rattle.rules.specs.Windows.{wokenAt, woken}
+use Rattle.rules.specs.Windows.{afterReport, wokenAt, woken}
 use Rattle.rules.specs.Reporting.{oneLessBusy, reportedHealth, dies, isPutOff, putOffEntries, putOffOf, kindAfter, settled, stays, parentAfter, departed, reportedAt, reporting}
 use Rattle.rules.specs.Calls.{Reply, granted, written, reportingReply}
 use Rattle.laws.specs.Choice.{if_then_else_}
@@ -43,7 +42,7 @@ use Rattle.window.specs.Fits.{healthFits}
 use Rattle.charging.specs.Links.{leadsInside}
 use Rattle.charging.proofs.Leads.{leads-present}
 use Rattle.rules.proofs.KeptPreempting.{parent-present}
-use Rattle.settling.specs.Settling.{stepped, CanPutOff, PutOff}
+use Rattle.settling.specs.Settling.{CanPutOff, PutOff}
 use Rattle.leaving.specs.Leaving.{staysAt, adoptedAt}
 use Rattle.reporting.proofs.ReportReplies.{CanReport}
 
@@ -166,11 +165,6 @@ module _ (s : State) (clock e : ℕ) (outcome : Outcome) (shape : Shaped s) wher
   abbrev Left : State
   Left = settled (woken s clock) e (destinationOf s e) after' died'
 
-  step-is : (o : Outcome) → stepped (settingsFor s (destinationOf s e)) (at (s .busy .destination) (destinationOf s e)) clock (healthOf (woken s clock) (destinationOf s e)) o ≡ reportedHealth (woken s clock) clock (destinationOf s e) o
-  unfolding stepped reportedHealth woken
-  step-is Success = refl
-  step-is Failure = refl
-
   -- a table of who stays says so of every number
   reads : (λ j. getD (tableTo (stays Left) 32) j false) ≡ stays Left
   unfolding settled woken
@@ -182,7 +176,7 @@ module _ (s : State) (clock e : ℕ) (outcome : Outcome) (shape : Shaped s) wher
   module _ {list : List ℕ} {ds : List Destination} {after : Health} {live live' : Bool} {kind freed dropped written' : List ℕ} {n : ℕ} {stay : List Bool}
       {adopted : List ℕ} {queue arrivals : JobList}
       (woke : ds ≡ tableTo (wokenAt (s .destinations) (s .setup) clock) 32)
-      (step : after ≡ stepped (settingsFor s (destinationOf s e)) (at (s .busy .destination) (destinationOf s e)) clock (getD ds (destinationOf s e) zeroDestination .health) outcome)
+      (step : after ≡ afterReport (settingsFor s (destinationOf s e)) (at (s .busy .destination) (destinationOf s e)) clock outcome (getD ds (destinationOf s e) zeroDestination .health))
       (lived : live ≡ isLive (getD ds (destinationOf s e) zeroDestination .health))
       (lives : live' ≡ isLive after)
       (put : PutOff (live && not live') (destinationOf s e) (s .entries .kind) (s .entries .job) (s .entries .destination) (s .jobs .dropped) list kind dropped written' n)
@@ -196,7 +190,11 @@ module _ (s : State) (clock e : ℕ) (outcome : Outcome) (shape : Shaped s) wher
     ds-is = woke
 
     after-is : after ≡ after'
-    after-is = step ∙ ap (λ l. stepped (settingsFor s (destinationOf s e)) (at (s .busy .destination) (destinationOf s e)) clock (getD l (destinationOf s e) zeroDestination .health) outcome) ds-is ∙ step-is outcome
+    unfolding woken
+    after-is =
+        step
+        ∙ ap (λ l. afterReport (settingsFor s (destinationOf s e)) (at (s .busy .destination) (destinationOf s e)) clock outcome (getD l (destinationOf s e) zeroDestination .health))
+        ds-is
 
     died-is : live && not live' ≡ died'
     unfolding dies

@@ -26,7 +26,7 @@ use Rattle.rules.specs.Demand3.{Ceilings, Demand3, Companions, Demand3Ho
 use Rattle.rules.proofs.Shape.{Shaped}
 use Rattle.rules.proofs.Soundness.{sound-of}
 use Rattle.rules.proofs.EntryTests.{used-not-free, used-job}
-use Rattle.rules.proofs.KeptRanges.{cost-range}
+use Rattle.rules.proofs.RangeFacts.{slots-range}
 use Rattle.rules.proofs.EntryFacts.{present-below}
 use Rattle.rules.proofs.Refused.{refusal-answered, sound-not-1}
 use Rattle.rules.proofs.Sim.{costIn, RowIs, JobIs, Sim}
@@ -98,7 +98,7 @@ sums-small {u} {s} {y} r j h =
     ⊎-elim
     (λ z. rw (q .over ∙ over-ceiling-free (r .sim .inv) i inside (cost ∙ z)) (omega arith))
     (λ z. rw (q .over) (le-trans (over-within (r .sim .inv) i inside (subst (λ c. 2 ≤ c) (sym cost) z)) (subst (λ v. v ≤ 256) (q .n) n)))
-    (cost-range (settingsOf s (at (s .jobs .transport) j)) (r .sound .setup .settings (at (s .jobs .transport) j) (job-lane s (r .shaped) (r .sound) j h)))
+    (slots-range (settingsOf s (at (s .jobs .transport) j)) (r .sound .setup .settings (at (s .jobs .transport) j) (job-lane s (r .shaped) (r .sound) j h)) .cost)
 
 pub companions : (u : Setup) → setupInRange u ≡ true → (calls : List Call) → Companions u calls
 companions u h calls =

@@ -15,7 +15,7 @@ use Rattle.rules.specs.Sizes.{maxJobs, maxEntries, lastSecond}
 use Rattle.rules.specs.State.{at, healthOf, isLive, settingsFor, transportOf, isBusy, isPresent, destinationOf, usedOf}
 use Rattle.rules.specs.Setup.{settingsInRange}
 use Rattle.rules.specs.SoundFacts.{Sound}
-use Rattle.rules.specs.Windows.{afterSuccess, afterFailure}
+use Rattle.rules.specs.Windows.{afterSuccess, afterFailure, afterReport}
 use Rattle.rules.specs.Reporting.{reportedHealth, dies, settled, reportedAt, reporting}
 use Rattle.rules.proofs.Shape.{Shaped}
 use Rattle.rules.proofs.WindowLaws.{live-success, live-failure}
@@ -41,7 +41,7 @@ module _ (w : State) (now d : ℕ) (sound : Sound w) (inside : d < w .setup .des
   range = sound .setup .settings (transportOf w d) (sound .setup .home d inside)
 
   pub stepped-of : (outcome : Outcome) → Stepped w d (reportedHealth w now d outcome) (dies (healthOf w d) (reportedHealth w now d outcome))
-  unfolding reportedHealth
+  unfolding afterReport
   stepped-of Success =
       let h = sound .destinations d inside in
       record {

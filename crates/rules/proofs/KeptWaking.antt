@@ -22,7 +22,7 @@ use Rattle.rules.specs.Windows.{wokenHealth, wokenAt, woken}
 use Rattle.rules.specs.Sound.{busyOn, busyTo, isJobOn, orderOf}
 use Rattle.rules.specs.SoundFacts.{LiveSound, DestinationSound, Sound}
 use Rattle.rules.proofs.Shape.{Shaped}
-use Rattle.rules.proofs.WindowLaws.{windows-range}
+use Rattle.rules.proofs.RangeFacts.{windows-range}
 
 pub woken-health : (s : State) (now d : ℕ) → d < s .setup .destinations → d < maxDestinations → healthOf (woken s now) d ≡ wokenHealth (settingsFor s d) now (healthOf s d)
 unfolding woken wokenAt

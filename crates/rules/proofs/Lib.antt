@@ -4,7 +4,6 @@ pub mod HandedOut
 pub mod KeptHandedOut
 pub mod KeptPicking
 pub mod KeptPreempting
-pub mod KeptRanges
 pub mod KeptWaking
 pub mod Picked
 pub mod Found

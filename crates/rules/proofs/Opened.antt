@@ -8,13 +8,13 @@ use Rattle.laws.specs.Newest.{newest}
 use Rattle.laws.specs.Update.{upd}
 use Rattle.rules.specs.State.{isLive, windowOf, waitsOf, busyOf, usedOf, waitingOf}
 use Rattle.rules.specs.Setup.{within, feedbackInRange, slotsInRange, windowsInRange, settingsInRange, setupInRange, emptyState, firstDestination, freshState}
-use Rattle.rules.specs.Windows.{feedback, cohortShare, isDeadAt, raised, liveAfterSuccess, afterSuccess, lowered, liveAfterFailure, afterFailure, wokenHealth, wokenAt, woken}
+use Rattle.rules.specs.Windows.{feedback, cohortShare, isDeadAt, raised, liveAfterSuccess, afterSuccess, lowered, liveAfterFailure, afterFailure, afterReport, wokenHealth, wokenAt, woken}
 use Rattle.rules.specs.Sound.{implies, belongs, entrySound, busyOn, busyTo, busySound, isJobOn, queueSound, arrivalsSound, orderOf, orderSound, countsSound, soldSound, childOf, jobSound, sumsFit, healthSound, sound}
 use Rattle.rules.specs.Taking.{isDead, putOffPositions, keptOf, nOf, newNumber, freePlaces, filled, newOrder, withOrder, taken}
 use Rattle.rules.specs.Picking.{hasRoom, hasAgent, eligible, eligibleOn, eligibleOf, eligibleTo, hasEligible, stepsTo, transportSteps, finds, nextTransport, currentJob, passedOver, nextPlace, nextEntry}
 use Rattle.rules.specs.Preemption.{credit, hasCredit, owned, affordable, isCandidate, beats, better, bestCandidate, paysFor, paysForBest, longEnough, isPreempted, preemptorOf, addedTo, charged, preempting}
 use Rattle.rules.specs.Pick.{handedOut, pickFrom, pickWith, pickOn, picking}
-use Rattle.rules.specs.Reporting.{reportedHealth, dies, isPutOff, putOffEntries, putOffOf, kindAfter, settled, stays, parentAfter, departed, reportedAt, reporting}
+use Rattle.rules.specs.Reporting.{dies, isPutOff, putOffEntries, putOffOf, kindAfter, settled, stays, parentAfter, departed, reportedAt, reporting}
 use Rattle.rules.specs.Refusals.{badClock, isDestinationOn, lacksNumber, lacksPlaces, isBusyWith, setupRefusal, jobRefusal, pickRefusal, reportRefusal}
 use Rattle.rules.specs.Calls.{unlessRefused, setupReply, takingReply, pickingReply, afterPick, reportingReply, replyTo}
 use Rattle.rules.specs.Calls.{takingDecisions, pickDecisions, decidedUnless, decisionsOn}
@@ -59,7 +59,7 @@ unfolding handedOut pickFrom pickWith pickOn picking
 picks = tt
 
 unfoldable pub reports : Unit {0}
-unfolding reportedHealth dies isPutOff putOffEntries putOffOf kindAfter settled stays parentAfter departed reportedAt reporting
+unfolding afterReport dies isPutOff putOffEntries putOffOf kindAfter settled stays parentAfter departed reportedAt reporting
 reports = tt
 
 unfoldable pub refusals : Unit {0}

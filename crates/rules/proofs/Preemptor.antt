@@ -23,7 +23,7 @@ use Rattle.rules.specs.SoundFacts.{Sound}
 use Rattle.rules.specs.Picking.{hasEligible}
 use Rattle.rules.specs.Preemption.{credit, hasCredit, owned, creditOf, affordable, canPayFor, isCandidate, bestCandidate, paysFor, paysForBest, longEnough, isPreempted, preemptorOf}
 use Rattle.rules.proofs.Shape.{Shaped}
-use Rattle.rules.proofs.KeptRanges.{cost-range}
+use Rattle.rules.proofs.RangeFacts.{slots-range}
 use Rattle.rules.proofs.EntryFacts.{has-eligible-waits}
 use Rattle.rules.proofs.Picked.{Current, queue-once, queue-holds}
 use Rattle.rules.proofs.Candidates.{candidate-facts, Best, best-some}
@@ -109,7 +109,7 @@ preemptor-found w now t y x shape h l cur e =
     let c = candidate-facts w t y x (b .candidate) in
     let here : holds x (listOf (w .arrivals)) ≡ true = subst (λ z. holds z (listOf (w .arrivals)) ≡ true) (b .stands) (holds-getD (listOf (w .arrivals)) (b .rank) 0 (b .below)) in
     let once = once-facts (isPresent w) maxJobs (listOf (w .arrivals)) (h .arrivals .once) in
-    let range = cost-range (settingsOf w t) (h .setup .settings t l) in
+    let range = slots-range (settingsOf w t) (h .setup .settings t l) .cost in
     let cost : 2 ≤ settingsOf w t .cost = ⊎-elim (λ z. absurd (f .0 z)) (λ z. z) range in
     let o = credit-owned (settingsOf w t .cost) (at (w .jobs .picked) y) (at (w .jobs .sold) y) (f .1) in
     record {

@@ -1,21 +1,26 @@
--- Tests of ranges and the facts that they say: numbers within limits, a set-up, a live destination's numbers.
+-- Tests of ranges and the facts that they say: numbers within limits, settings, a set-up, a live destination's numbers.
 use Prim.Native.Nat.{ℕ, _*_, _≤_, _<_}
 use mathlib.Core.Path.{_≡_, refl}
-use mathlib.Core.Bool.{Bool, true, false}
+use mathlib.Core.Bool.{Bool, true, false, _||_}
+use mathlib.Core.Logic.{_⊎_, inl, inr, ⊎-elim}
 use native.Mathlib.Nat.{lt-of-lt-of-le}
+use native.Mathlib.Omega.{arith}
 use lib.ListN.{getD}
-use lib.Dec.{ltb, leb}
-use borrow.Author.Tests.{ltb-true, leb-true, lt-ltb, le-leb}
+use lib.Dec.{eqb, ltb, leb}
+use borrow.Author.Tests.{eqb-true, ltb-true, leb-true, lt-ltb, le-leb}
 use Rattle.laws.specs.Range.{allTo}
-use Rattle.laws.proofs.Choice.{true-not-false, and-both, and-left, and-right}
+use Rattle.laws.proofs.Choice.{true-not-false, and-both, and-left, and-right, or-cases}
 use Rattle.laws.proofs.Both.{and-4}
+use Rattle.laws.proofs.Tests.{and-5, and-6}
 use Rattle.laws.proofs.All.{all-at, all-from}
+use Rattle.rules.specs.declared.Feedback.{Feedback}
 use Rattle.rules.specs.declared.Settings.{Settings}
 use Rattle.rules.specs.declared.Setup.{Setup}
 use Rattle.rules.specs.declared.Sums.{Sums}
-use Rattle.rules.specs.Sizes.{U, maxTransports, maxDestinations}
+use Rattle.rules.specs.Sizes.{U, maxTransports, maxDestinations, maxAgents, maxWindow}
 use Rattle.rules.specs.State.{at, zeroSettings}
-use Rattle.rules.specs.Setup.{within, setupInRange, settingsInRange}
+use Rattle.rules.specs.Setup.{within, feedbackInRange, slotsInRange, windowsInRange, settingsInRange, setupInRange}
+use Rattle.rules.specs.Windows.{cohortBound}
 use Rattle.rules.specs.Sound.{implies, sumsFit}
 use Rattle.rules.specs.SoundFacts.{InRange, LiveSound}
 
@@ -36,6 +41,59 @@ pub implies-of : (a : Bool) {b : Bool} → (a ≡ true → b ≡ true) → impli
 unfolding implies
 implies-of true h = h refl
 implies-of false h = refl
+
+-- Settings.
+
+-- what settings in range say of slots
+pub record SlotsRange (g : Settings) : Type 0 where
+  pub cost : (g .cost ≡ 0) ⊎ (2 ≤ g .cost)
+  pub dear : g .cost ≤ 100
+  pub loan : g .loan ≤ 100
+  pub discount : g .discount ≤ 100
+  pub minimum : g .minimum ≤ 100
+
+pub slots-range : (g : Settings) → settingsInRange g ≡ true → SlotsRange g
+unfolding settingsInRange slotsInRange
+slots-range g h =
+    let k =
+    and-5 (within 1 maxAgents (g .agents)) (eqb (g .cost) 0 || within 2 100 (g .cost)) (within 0 100 (g .loan)) (within 0 100 (g .discount)) (within 0 100 (g .minimum))
+    (and-left (slotsInRange g) (windowsInRange g) h) in
+    let c = or-cases (eqb (g .cost) 0) (within 2 100 (g .cost)) (k .1) in
+    record {
+      cost = ⊎-elim (λ z. inl (eqb-true (g .cost) 0 z)) (λ w. inr (within-facts w .0)) c;
+      dear = ⊎-elim (λ z. omega (arith, eqb-true (g .cost) 0 z)) (λ w. within-facts w .1) c;
+      loan = within-facts (k .2) .1;
+      discount = within-facts (k .3) .1;
+      minimum = within-facts (k .4) .1;
+    }
+
+-- and of windows
+pub record WindowsRange (g : Settings) : Type 0 where
+  pub limit : (1 ≤ g .limit) × (g .limit ≤ maxWindow)
+  pub initial : (1 ≤ g .initial) × (g .initial ≤ g .limit)
+  pub positive : g .positive .percent ≤ 100
+  pub negative : g .negative .percent ≤ 100
+  pub cohortlimit : (1 ≤ g .cohortlimit) × (g .cohortlimit ≤ 100)
+  pub suspension : (1 ≤ g .suspension) × (g .suspension ≤ 86_400)
+
+percent-high : (least : ℕ) (f : Feedback) → feedbackInRange least f ≡ true → f .percent ≤ 100
+unfolding feedbackInRange
+percent-high least f h = within-facts (and-left (within least 100 (f .percent)) (within 0 1 (f .form)) h) .1
+
+pub windows-range : (g : Settings) → settingsInRange g ≡ true → WindowsRange g
+unfolding settingsInRange windowsInRange
+windows-range g h =
+    let k =
+    and-6 (within 1 maxWindow (g .limit)) (within 1 (g .limit) (g .initial)) (feedbackInRange _ (g .positive)) (feedbackInRange _ (g .negative)) (within 1 100 (g .cohortlimit)) (within 1 86_400 (g .suspension))
+    (and-right (slotsInRange g) (windowsInRange g) h) in
+    record {
+      limit = within-facts (k .0);
+      initial = within-facts (k .1);
+      positive = percent-high _ (g .positive) (k .2);
+      negative = percent-high _ (g .negative) (k .3);
+      cohortlimit = within-facts (k .4);
+      suspension = within-facts (k .5);
+    }
 
 -- Set-up.
 
@@ -70,16 +128,16 @@ module _ (g : Settings) (u : Sums) where
   pub sums-fit-facts : sumsFit g u ≡ true → LiveSound g u
   unfolding sumsFit
   sums-fit-facts h =
-      let f = and-4 (within 1 (g .limit) (u .window)) (ltb (u .success) U) (ltb (u .failure) U) (leb (u .cohorts) (g .cohortlimit * U)) h in
+      let f = and-4 (within 1 (g .limit) (u .window)) (ltb (u .success) U) (ltb (u .failure) U) (leb (u .cohorts) (cohortBound g)) h in
       record {
         window = within-facts (f .0);
         success = ltb-true (u .success) U (f .1);
         failure = ltb-true (u .failure) U (f .2);
-        cohorts = leb-true (u .cohorts) (g .cohortlimit * U) (f .3);
+        cohorts = leb-true (u .cohorts) (cohortBound g) (f .3);
       }
 
   pub sums-fit-of : LiveSound g u → sumsFit g u ≡ true
   unfolding sumsFit
   sums-fit-of r =
       and-both (and-both (and-both (within-of (r .window)) (lt-ltb (u .success) U (r .success))) (lt-ltb (u .failure) U (r .failure)))
-      (le-leb (u .cohorts) (g .cohortlimit * U) (r .cohorts))
+      (le-leb (u .cohorts) (cohortBound g) (r .cohorts))

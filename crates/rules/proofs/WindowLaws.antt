@@ -16,44 +16,15 @@ use Rattle.rules.specs.declared.Health.the-variants.{Live, Dead}
 use Rattle.rules.specs.Sizes.{U}
 use Rattle.rules.specs.Setup.{within, feedbackInRange, slotsInRange, windowsInRange, settingsInRange, firstState}
 use Rattle.rules.specs.SoundFacts.{LiveSound}
-use Rattle.rules.specs.Windows.{feedback, cohortShare, isDeadAt, raised, lowered, liveAfterSuccess, afterSuccess, liveAfterFailure}
+use Rattle.rules.specs.Windows.{cohortBound, feedback, cohortShare, isDeadAt, raised, lowered, liveAfterSuccess, afterSuccess, liveAfterFailure}
 use Rattle.rules.specs.Windows.{afterFailure}
-use Rattle.rules.proofs.RangeFacts.{within-facts}
-
--- what settings in range say of windows
-pub record WindowsRange (g : Settings) : Type 0 where
-  pub limit : (1 ≤ g .limit) × (g .limit ≤ 20)
-  pub initial : (1 ≤ g .initial) × (g .initial ≤ g .limit)
-  pub positive : feedbackInRange (g .positive) ≡ true
-  pub negative : feedbackInRange (g .negative) ≡ true
-  pub cohortlimit : (1 ≤ g .cohortlimit) × (g .cohortlimit ≤ 100)
-  pub suspension : (1 ≤ g .suspension) × (g .suspension ≤ 86_400)
-
-pub windows-range : (g : Settings) → settingsInRange g ≡ true → WindowsRange g
-unfolding settingsInRange windowsInRange
-windows-range g h =
-    let k =
-    and-6 (within 1 20 (g .limit)) (within 1 (g .limit) (g .initial)) (feedbackInRange (g .positive)) (feedbackInRange (g .negative)) (within 1 100 (g .cohortlimit)) (within 1 86_400 (g .suspension))
-    (and-right (slotsInRange g) (windowsInRange g) h) in
-    record {
-      limit = within-facts (k .0);
-      initial = within-facts (k .1);
-      positive = k .2;
-      negative = k .3;
-      cohortlimit = within-facts (k .4);
-      suspension = within-facts (k .5);
-    }
+use Rattle.rules.proofs.RangeFacts.{windows-range}
 
 -- Feedback is at most 1.
 
-pub percent-le : (f : Feedback) → feedbackInRange f ≡ true → f .percent ≤ 100
-unfolding feedbackInRange
-percent-le f h = within-facts (and-left (within 0 100 (f .percent)) (within 0 1 (f .form)) h) .1
-
-pub feedback-le-U : (f : Feedback) (window : ℕ) → feedbackInRange f ≡ true → 1 ≤ window → feedback f window ≤ U
+pub feedback-le-U : (f : Feedback) (window : ℕ) → f .percent ≤ 100 → 1 ≤ window → feedback f window ≤ U
 unfolding feedback
 feedback-le-U f window h l =
-    let p = percent-le f h in
     if-cases (λ x. x ≤ U) (eqb (f .form) 0)
     (λ t. div-le-of-le-mul 100 (omega arith))
     (λ t. div-le-of-le-mul (100 * window) (omega arith))
@@ -95,7 +66,7 @@ module _ (g : Settings) (u : Sums) (range : settingsInRange g ≡ true) (live : 
 
   -- A failure.
 
-  pub live-lowered : (fall cohorts : ℕ) → fall ≤ U → cohorts ≤ g .cohortlimit * U → LiveSound g (lowered u fall cohorts)
+  pub live-lowered : (fall cohorts : ℕ) → fall ≤ U → cohorts ≤ cohortBound g → LiveSound g (lowered u fall cohorts)
   unfolding lowered
   live-lowered fall cohorts l m =
       let r = windows-range g range in
@@ -111,12 +82,12 @@ module _ (g : Settings) (u : Sums) (range : settingsInRange g ≡ true) (live : 
   live-after-failure now cohorts v =
       let r = windows-range g range in
       let a = feedback-le-U (g .negative) (u .window) (r .negative) (live .window .0) in
-      if-cases (λ h. h ≡ Live v → LiveSound g v) (ltb (g .cohortlimit * U) cohorts)
+      if-cases (λ h. h ≡ Live v → LiveSound g v) (ltb (cohortBound g) cohorts)
       (λ t e. let z : _≡_ {A = ℕ} 0 1 = cc in absurd (omega arith))
       (λ f e.
       let q : lowered u (feedback (g .negative) (u .window)) cohorts ≡ v = cc in
       subst (LiveSound g) q
-      (live-lowered (feedback (g .negative) (u .window)) cohorts a (ltb-false (g .cohortlimit * U) cohorts f)))
+      (live-lowered (feedback (g .negative) (u .window)) cohorts a (ltb-false (cohortBound g) cohorts f)))
 
 -- any destination
 

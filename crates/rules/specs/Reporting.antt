@@ -15,17 +15,15 @@ use Rattle.rules.specs.declared.Jobs.{Jobs}
 use Rattle.rules.specs.declared.Entries.{Entries}
 use Rattle.rules.specs.declared.State.{State}
 use Rattle.rules.specs.declared.Outcome.{Outcome}
-use Rattle.rules.specs.declared.Outcome.the-variants.{Success, Failure}
 use Rattle.rules.specs.Sizes.{maxJobs, maxEntries}
 use Rattle.rules.specs.State.{at, transportOf, settingsFor, healthOf, isLive, listOf, listed, queueOf, isWaiting, jobOf, destinationOf, isPresent}
 use Rattle.rules.specs.State.{usedOf, parentOf}
 use Rattle.rules.specs.Changed.{onDestinations, onBusy, onQueue, onArrivals, onJobs, onEntries, onPresent, onDropped, onParent, withKinds}
-use Rattle.rules.specs.Windows.{afterSuccess, afterFailure}
+use Rattle.rules.specs.Windows.{afterReport}
 
--- "busy still counting this delivery"
-unfoldable pub reportedHealth : State → ℕ → ℕ → Outcome → Health
-reportedHealth s now d Success = afterSuccess (settingsFor s d) (at (s .busy .destination) d) (healthOf s d)
-reportedHealth s now d Failure = afterFailure (settingsFor s d) now (healthOf s d)
+-- the destination after its step
+abbrev pub reportedHealth : State → ℕ → ℕ → Outcome → Health
+reportedHealth s now d outcome = afterReport (settingsFor s d) (at (s .busy .destination) d) now outcome (healthOf s d)
 
 -- the destination died in this step
 unfoldable pub dies : Health → Health → Bool

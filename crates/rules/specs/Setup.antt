@@ -1,5 +1,5 @@
 -- Document 01, "Sizes", "Set-up ranges": what a site may give, the state that it starts from, and the state of all zeros.
-use Prim.Native.Nat.{ℕ, zero, suc}
+use Prim.Native.Nat.{ℕ, _*_}
 use mathlib.Core.Bool.{Bool, true, false, _&&_, _||_}
 use mathlib.Core.List.{List, [], _∷_, map}
 use lib.ListN.{getD, replicate}
@@ -16,33 +16,33 @@ use Rattle.rules.specs.declared.Busy.{Busy}
 use Rattle.rules.specs.declared.Jobs.{Jobs}
 use Rattle.rules.specs.declared.Entries.{Entries}
 use Rattle.rules.specs.declared.State.{State}
-use Rattle.rules.specs.Sizes.{maxTransports, maxDestinations, maxJobs, maxEntries}
+use Rattle.rules.specs.Sizes.{maxTransports, maxDestinations, maxJobs, maxEntries, maxAgents, maxWindow}
 use Rattle.rules.specs.State.{at, zeroSettings, zeroDestination, zeroList}
 
 -- low to high, both ends in
 unfoldable pub within : ℕ → ℕ → ℕ → Bool
 within low high x = leb low x && leb x high
 
--- "positive and negative feedback in percent 0-100, each flat or per window"
-unfoldable pub feedbackInRange : Feedback → Bool
-feedbackInRange f = within 0 100 (f .percent) && within 0 1 (f .form)
+-- feedback in percent, from its least to 100; "each flat or per window"
+unfoldable pub feedbackInRange : ℕ → Feedback → Bool
+feedbackInRange least f = within least 100 (f .percent) && within 0 1 (f .form)
 
 -- "Per transport: agents 1-100; slot cost c 0 (preemption off) or 2-100; loan L 0-100; discount d 0-100; minimum slots M 0-100"
 unfoldable pub slotsInRange : Settings → Bool
 slotsInRange g =
-    within 1 100 (g .agents)
+    within 1 maxAgents (g .agents)
     && (eqb (g .cost) 0 || within 2 100 (g .cost))
     && within 0 100 (g .loan)
     && within 0 100 (g .discount)
     && within 0 100 (g .minimum)
 
--- "window limit 1-20; initial window 1 to that limit; .. feedback ..; cohort limit 1-100; suspension 1-86,400 s"
+-- "window limit 1-20; initial window 1 to that limit; positive and negative feedback in percent 0-100 ..; cohort limit 1-100; suspension 1-86,400 s"
 unfoldable pub windowsInRange : Settings → Bool
 windowsInRange g =
-    within 1 20 (g .limit)
+    within 1 maxWindow (g .limit)
     && within 1 (g .limit) (g .initial)
-    && feedbackInRange (g .positive)
-    && feedbackInRange (g .negative)
+    && feedbackInRange 0 (g .positive)
+    && feedbackInRange 0 (g .negative)
     && within 1 100 (g .cohortlimit)
     && within 1 86_400 (g .suspension)
 
@@ -81,7 +81,7 @@ noJobs =
       overtakers = replicate maxJobs 0;
       turn = replicate maxJobs 0;
       places = replicate maxJobs 0;
-      order = replicate 1024 0;
+      order = replicate (maxJobs * maxDestinations) 0;
     }
 
 abbrev pub noEntries : Entries

@@ -19,6 +19,14 @@ maxEntries = 512
 abbrev pub maxLength : ℕ
 maxLength = 256
 
+-- "agents 1-100"
+abbrev pub maxAgents : ℕ
+maxAgents = 100
+
+-- "window limit 1-20"
+abbrev pub maxWindow : ℕ
+maxWindow = 20
+
 -- "Clock: seconds, 0 to 2^32-1"
 abbrev pub lastSecond : ℕ
 lastSecond = 4_294_967_295

@@ -17,6 +17,7 @@ use Rattle.rules.specs.Sizes.{U, sumLimit, maxDestinations, maxJobs, max
 use Rattle.rules.specs.State.{at, settingsOf, transportOf, settingsFor, healthOf, zeroList, listOf, queueOf, isFree, isWaiting, isBusy, jobOf}
 use Rattle.rules.specs.State.{destinationOf, isPresent, hasPreempted, waitsOf, busyOf, usedOf, waitingOf, orderAt, parentOf}
 use Rattle.rules.specs.Setup.{within, setupInRange}
+use Rattle.rules.specs.Windows.{cohortBound}
 
 -- where the first test holds, so does the second
 unfoldable pub implies : Bool → Bool → Bool
@@ -122,7 +123,7 @@ sumsFit g u =
     within 1 (g .limit) (u .window)
     && ltb (u .success) U
     && ltb (u .failure) U
-    && leb (u .cohorts) (g .cohortlimit * U)
+    && leb (u .cohorts) (cohortBound g)
 
 -- ".. ; a dead one has no waiting entry"
 unfoldable pub healthSound : State → ℕ → Health → Bool

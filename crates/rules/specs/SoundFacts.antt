@@ -18,6 +18,7 @@ use Rattle.rules.specs.Sizes.{U, sumLimit, maxTransports, maxDestination
 use Rattle.rules.specs.State.{at, settingsFor, transportOf, healthOf, zeroSettings, zeroList, listOf, queueOf, isFree, isWaiting, isBusy}
 use Rattle.rules.specs.State.{jobOf, destinationOf, isPresent, hasPreempted, busyOf, usedOf, waitingOf, parentOf}
 use Rattle.rules.specs.Setup.{settingsInRange}
+use Rattle.rules.specs.Windows.{cohortBound}
 use Rattle.rules.specs.Sound.{busyOn, busyTo, isJobOn, orderOf, costOf}
 
 pub record InRange (u : Setup) : Type 0 where
@@ -69,7 +70,7 @@ pub record LiveSound (g : Settings) (u : Sums) : Type 0 where
   pub window : (1 ≤ u .window) × (u .window ≤ g .limit)
   pub success : u .success < U
   pub failure : u .failure < U
-  pub cohorts : u .cohorts ≤ g .cohortlimit * U
+  pub cohorts : u .cohorts ≤ cohortBound g
 
 pub record DestinationSound (s : State) (d : ℕ) : Type 0 where
   pub live : (u : Sums) → healthOf s d ≡ Live u → LiveSound (settingsFor s d) u

@@ -14,6 +14,8 @@ use Rattle.rules.specs.declared.Health.{Health}
 use Rattle.rules.specs.declared.Health.the-variants.{Live, Dead}
 use Rattle.rules.specs.declared.Destination.{Destination}
 use Rattle.rules.specs.declared.State.{State}
+use Rattle.rules.specs.declared.Outcome.{Outcome}
+use Rattle.rules.specs.declared.Outcome.the-variants.{Success, Failure}
 use Rattle.rules.specs.Sizes.{U, maxDestinations}
 use Rattle.rules.specs.State.{at, zeroSettings, zeroDestination}
 use Rattle.rules.specs.Changed.{atClock, onDestinations}
@@ -27,9 +29,13 @@ feedback f window = if eqb (f .form) 0 then f .percent * U / 100 else f .percent
 unfoldable pub cohortShare : ℕ → ℕ
 cohortShare window = U / window
 
--- "cohorts are greater than limit times U", the cohort limit
+-- "limit times U", the cohort limit
+abbrev pub cohortBound : Settings → ℕ
+cohortBound g = g .cohortlimit * U
+
+-- "cohorts are greater than limit times U"
 unfoldable pub isDeadAt : Settings → ℕ → Bool
-isDeadAt g cohorts = ltb (g .cohortlimit * U) cohorts
+isDeadAt g cohorts = ltb (cohortBound g) cohorts
 
 -- "success grows by the feedback; at U or more, U is taken off, window grows by 1, failure becomes 0; a window over the limit is set to it"
 unfoldable pub raised : Settings → Sums → ℕ → Sums
@@ -68,6 +74,11 @@ liveAfterFailure g now u cohorts =
 unfoldable pub afterFailure : Settings → ℕ → Health → Health
 afterFailure g now (Live u) = liveAfterFailure g now u (u .cohorts + cohortShare (u .window))
 afterFailure g now (Dead end) = Dead end
+
+-- the step of a report; "busy still counting this delivery"
+unfoldable pub afterReport : Settings → ℕ → ℕ → Outcome → Health → Health
+afterReport g busy now Success h = afterSuccess g busy h
+afterReport g busy now Failure h = afterFailure g now h
 
 -- "wakes destinations whose suspension ends at or before it, to their first state"
 unfoldable pub wokenHealth : Settings → ℕ → Health → Health

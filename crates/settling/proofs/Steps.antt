@@ -9,8 +9,7 @@ use Rattle.rules.specs.declared.Health.the-variants.{Live, Dead}
 use Rattle.rules.specs.declared.Outcome.{Outcome}
 use Rattle.rules.specs.declared.Outcome.the-variants.{Success, Failure}
 use Rattle.rules.specs.State.{isLive}
-use Rattle.rules.specs.Windows.{afterSuccess, afterFailure}
-use Rattle.settling.specs.Settling.{stepped}
+use Rattle.rules.specs.Windows.{afterSuccess, afterFailure, afterReport}
 
 pub live-is : (h : Health) (u : Sums) → h ≡ Live u → true ≡ isLive h
 unfolding isLive
@@ -21,10 +20,10 @@ unfolding isLive
 dead-is h end e = rw e refl
 
 module _ (g : Settings) (busy now : ℕ) (h r : Health) (outcome : Outcome) where
-  pub stepped-success : outcome ≡ Success → r ≡ afterSuccess g busy h → r ≡ stepped g busy now h outcome
-  unfolding stepped
+  pub stepped-success : outcome ≡ Success → r ≡ afterSuccess g busy h → r ≡ afterReport g busy now outcome h
+  unfolding afterReport
   stepped-success e k = rw e k
 
-  pub stepped-failure : outcome ≡ Failure → r ≡ afterFailure g now h → r ≡ stepped g busy now h outcome
-  unfolding stepped
+  pub stepped-failure : outcome ≡ Failure → r ≡ afterFailure g now h → r ≡ afterReport g busy now outcome h
+  unfolding afterReport
   stepped-failure e k = rw e k

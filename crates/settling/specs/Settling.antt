@@ -8,21 +8,11 @@ use lib.ListN.{length}
 use lib.Dec.{eqb}
 use Rattle.laws.specs.Choice.{if_then_else_}
 use Rattle.laws.specs.Range.{countTo, chosenTo, tableTo}
-use Rattle.rules.specs.declared.Settings.{Settings}
-use Rattle.rules.specs.declared.Health.{Health}
-use Rattle.rules.specs.declared.Outcome.{Outcome}
-use Rattle.rules.specs.declared.Outcome.the-variants.{Success, Failure}
 use Rattle.rules.specs.declared.State.{State}
 use Rattle.rules.specs.Sizes.{maxJobs, maxEntries, maxLength}
 use Rattle.rules.specs.State.{at}
-use Rattle.rules.specs.Windows.{afterSuccess, afterFailure}
 use Rattle.rules.specs.Sound.{sound}
 use Rattle.rules.specs.Calls.{written}
-
--- the destination's step
-unfoldable pub stepped : Settings → ℕ → ℕ → Health → Outcome → Health
-stepped g busy now h Success = afterSuccess g busy h
-stepped g busy now h Failure = afterFailure g now h
 
 -- the waiting entries of d, where it died
 abbrev pub putOffAt : List ℕ → List ℕ → Bool → ℕ → ℕ → Bool

@@ -14,12 +14,13 @@ ghost use Rattle.rules.specs.State.{isLive};
 ghost use Rattle.rules.specs.Setup.{settingsInRange};
 ghost use Rattle.rules.specs.Refusals.{reportRefusal};
 ghost use Rattle.window.specs.Fits.{healthFits};
-ghost use Rattle.settling.specs.Settling.{stepped, CanPutOff, PutOff, HasColumns};
+ghost use Rattle.rules.specs.Windows.{afterReport};
+ghost use Rattle.settling.specs.Settling.{CanPutOff, PutOff, HasColumns};
 
 // The destination after this outcome; busy still counts this delivery.
 pub fn step(g: Settings, busy: u64, now: u64, h: Health, outcome: Outcome) -> Health
     requires { ⌜ (settingsInRange g ≡ true) × (healthFits g h ≡ true) × (busy ≤ 512) × (now ≤ 4294967295) ⌝ }
-    ensures { λ r. ⌜ r ≡ stepped g busy now h outcome ⌝ }
+    ensures { λ r. ⌜ r ≡ afterReport g busy now outcome h ⌝ }
 {
     match outcome {
         Outcome::Success => window::after_success(g, busy, h),

@@ -11,12 +11,12 @@ use Rattle.rules.specs.declared.Settings.{Settings}
 use Rattle.rules.specs.declared.Sums.{Sums}
 use Rattle.rules.specs.declared.Health.{Health}
 use Rattle.rules.specs.declared.Health.the-variants.{Live}
-use Rattle.rules.specs.Sizes.{U}
-use Rattle.rules.specs.Setup.{feedbackInRange, settingsInRange}
+use Rattle.rules.specs.Sizes.{U, maxWindow}
+use Rattle.rules.specs.Setup.{settingsInRange}
 use Rattle.rules.specs.Sound.{sumsFit}
 use Rattle.rules.specs.Windows.{feedback, cohortShare}
-use Rattle.rules.proofs.RangeFacts.{sums-fit-facts}
-use Rattle.rules.proofs.WindowLaws.{windows-range, feedback-le-U}
+use Rattle.rules.proofs.RangeFacts.{windows-range, sums-fit-facts}
+use Rattle.rules.proofs.WindowLaws.{feedback-le-U}
 use Rattle.window.specs.Fits.{healthFits}
 
 pub feedback-flat : (f : Feedback) (window : ℕ) → f .form ≡ 0 → feedback f window ≡ f .percent * U / 100
@@ -32,10 +32,10 @@ unfolding cohortShare
 share-high window = div-le-self U window
 
 module _ (g : Settings) (u : Sums) (r : settingsInRange g ≡ true) (k : sumsFit g u ≡ true) where
-  pub positive-asks : (feedbackInRange (g .positive) ≡ true) × (1 ≤ u .window) × (u .window ≤ 20)
+  pub positive-asks : (g .positive .percent ≤ 100) × (1 ≤ u .window) × (u .window ≤ maxWindow)
   positive-asks = let w = windows-range g r in let f = sums-fit-facts g u k in (w .positive, f .window .0, omega arith)
 
-  pub negative-asks : (feedbackInRange (g .negative) ≡ true) × (1 ≤ u .window) × (u .window ≤ 20)
+  pub negative-asks : (g .negative .percent ≤ 100) × (1 ≤ u .window) × (u .window ≤ maxWindow)
   negative-asks = let w = windows-range g r in let f = sums-fit-facts g u k in (w .negative, f .window .0, omega arith)
 
   pub success-sum : (b : ℕ) → b ≡ feedback (g .positive) (u .window) → u .success + b < 2 * U

@@ -7,8 +7,8 @@ ghost use mathlib.Core.Path.{_≡_};
 ghost use mathlib.Core.Bool.{true};
 ghost use Prim.Native.Nat.{_≤_, _<_, min, max};
 ghost use Rattle.rules.specs.declared.Health.the-variants.{Live};
-ghost use Rattle.rules.specs.Sizes.{U};
-ghost use Rattle.rules.specs.Setup.{feedbackInRange, settingsInRange, firstState};
+ghost use Rattle.rules.specs.Sizes.{U, maxWindow};
+ghost use Rattle.rules.specs.Setup.{settingsInRange, firstState};
 ghost use Rattle.rules.specs.Windows.{feedback, cohortShare, raised, liveAfterSuccess, afterSuccess};
 ghost use Rattle.rules.specs.Windows.{lowered, liveAfterFailure, afterFailure};
 ghost use Rattle.window.specs.Fits.{healthFits};
@@ -17,9 +17,9 @@ ghost use Rattle.rules.specs.Sound.{sumsFit};
 // The parts that stand for 1.
 const U: u64 = 23_279_256_000;
 
-// The feedback at a window. That it is in range, and the window 1 to 20, soundness gives for a live destination.
+// The feedback at a window. That both are in range soundness gives for a live destination.
 pub fn feedback(f: Feedback, window: u64) -> u64
-    requires { ⌜ (feedbackInRange f ≡ true) × (1 ≤ window) × (window ≤ 20) ⌝ }
+    requires { ⌜ (f .percent ≤ 100) × (1 ≤ window) × (window ≤ maxWindow) ⌝ }
     ensures { λ r. ⌜ r ≡ feedback f window ⌝ }
 {
     let parts = f.percent * U;
@@ -62,9 +62,9 @@ fn greatest(a: u64, b: u64) -> u64
     if a <= b { b } else { a }
 }
 
-// The sums with this success: at U or more the window grows. A live window is at most 20.
+// The sums with this success: at U or more the window grows.
 fn raised(g: Settings, u: Sums, success: u64) -> Sums
-    requires { ⌜ u .window ≤ 20 ⌝ }
+    requires { ⌜ u .window ≤ maxWindow ⌝ }
     ensures { λ r. ⌜ r ≡ raised g u success ⌝ }
 {
     if success < U {

@@ -2,13 +2,12 @@
 use borrow.Author.Needs.{needs}
 use mathlib.Core.Path.{sym}
 use native.Mathlib.Omega.{arith}
-use Rattle.rules.proofs.WindowLaws.{percent-le}
 use Rattle.window.proofs.WindowLaws.{feedback-flat, feedback-per-window}
 use Rattle.window.proofs.feedback.Statement.{statement}
 use Rattle.window.proofs.feedback.Tie as tie
 
 mul-parts : tie.Need-mul-parts
-mul-parts c = omega (arith, percent-le (c .before .args .f) (c .before .pre .0))
+mul-parts c = omega (arith, c .before .pre .0)
 
 mul-result : tie.Need-mul-result
 mul-result c = search needs

@@ -1,6 +1,6 @@
 -- Dead past the cohort limit; else the sums fall. Assumes nothing.
 use native.Mathlib.Omega.{arith}
-use Rattle.rules.proofs.WindowLaws.{windows-range}
+use Rattle.rules.proofs.RangeFacts.{windows-range}
 use Rattle.window.proofs.WindowLaws.{negative-asks, lowered-asks}
 use Rattle.window.proofs.Cases.{failure-kills, failure-spares}
 use Rattle.window.proofs.live_after_failure.Statement.{statement}

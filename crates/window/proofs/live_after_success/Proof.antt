@@ -1,6 +1,6 @@
 -- Success grows only where the window is below busy and initial together. Assumes nothing.
 use native.Mathlib.Omega.{arith}
-use Rattle.rules.proofs.WindowLaws.{windows-range}
+use Rattle.rules.proofs.RangeFacts.{windows-range}
 use Rattle.window.proofs.WindowLaws.{positive-asks, success-sum}
 use Rattle.window.proofs.Cases.{success-grows, success-stays}
 use Rattle.window.proofs.live_after_success.Statement.{statement}
