@@ -5,6 +5,7 @@ use mathlib.Core.Bool.{true}
 use native.Mathlib.Nat.{mul-le-mul-right}
 use native.Mathlib.Omega.{arith}
 use Rattle.laws.specs.Chain.{endsIn}
+use Rattle.laws.proofs.Chain.{link-cases, ends-zero}
 use Rattle.ceiling.specs.Columns.{Columns}
 use Rattle.ceiling.proofs.Overtaken.{over-paid, over-none}
 use Rattle.ceiling.proofs.DoubleCount.{div-ceiling}
@@ -33,3 +34,9 @@ module _ {cost : ℕ → ℕ} {g : Columns} {Ahead : ℕ → ℕ → Type 0} (i 
 
   pub chains-end : endsIn (g .names) (g .rows) (suc j) ≡ true
   chains-end = chain-ends (i .forest) (g .rows) j l (depth-below (i .forest) j l)
+
+  -- and from the row that it names
+  pub names-end : endsIn (g .names) (g .rows) (g .names j) ≡ true
+  names-end =
+      link-cases (λ k. endsIn (g .names) (g .rows) k ≡ true) (g .names j) (ends-zero (g .names) (g .rows))
+      (λ z e. let h = i .forest .named j z l e .inside in chain-ends (i .forest) (g .rows) z h (depth-below (i .forest) z h))

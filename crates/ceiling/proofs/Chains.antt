@@ -5,14 +5,10 @@ use mathlib.Core.Bool.{true}
 use native.Mathlib.Nat.{not-suc-le-zero}
 use native.Mathlib.Omega.{arith}
 use Rattle.laws.specs.Chain.{endsIn}
+use Rattle.laws.proofs.Chain.{ends-zero}
 use Rattle.laws.proofs.Sum.{sum-ones-miss}
 use Rattle.ceiling.specs.Columns.{Columns, namers}
 use Rattle.ceiling.proofs.Forest.{Forest}
-
-ends-nowhere : (next : ℕ → ℕ) (n : ℕ) → endsIn next n 0 ≡ true
-unfolding endsIn
-ends-nowhere next zero = refl
-ends-nowhere next (suc n) = refl
 
 module _ {cost : ℕ → ℕ} {g : Columns} (f : Forest cost g) where
   -- by the name that a row has: none, or a row less deep
@@ -33,7 +29,7 @@ module _ {cost : ℕ → ℕ} {g : Columns} (f : Forest cost g) where
   pub chain-ends : (n y : ℕ) → y < g .rows → g .depth y < n → endsIn (g .names) n (suc y) ≡ true
   unfolding endsIn
   chain-ends zero y l h = absurd (not-suc-le-zero h)
-  chain-ends (suc n) y l h = by-name (λ k. endsIn (g .names) n k ≡ true) y l (ends-nowhere _ n) (λ z i e. chain-ends n z i (omega arith))
+  chain-ends (suc n) y l h = by-name (λ k. endsIn (g .names) n k ≡ true) y l (ends-zero _ n) (λ z i e. chain-ends n z i (omega arith))
 
   pub depth-below : (y : ℕ) → y < g .rows → g .depth y < g .rows
   depth-below y l = omega (arith, f .deep y l, some-name-nobody (suc (g .depth y)) y l (omega arith))

@@ -67,8 +67,8 @@ module _ {ℓ} {A : Type ℓ} (key : A → ℕ) (none : A) where
         (λ i b. ap (λ r. eqb (key r) j) (getD-old i b)))
 
 -- one element is written: what it has as the old one had it is as it was everywhere
-module _ {ℓ} {A : Type ℓ} (none : A) (l : List A) (i : ℕ) (new : A) where
-  pub set-field : (f : A → ℕ) → f new ≡ f (getD l i none) → (k : ℕ) → f (getD (set l i new) k none) ≡ f (getD l k none)
+module _ {ℓ κ} {A : Type ℓ} {B : Type κ} (none : A) (l : List A) (i : ℕ) (new : A) where
+  pub set-field : (f : A → B) → f new ≡ f (getD l i none) → (k : ℕ) → f (getD (set l i new) k none) ≡ f (getD l k none)
   set-field f e k =
       elim (ℕ-discrete k i) [
         | yes q ↦ rw q (elim (decLt i (length l)) [ yes b ↦ ap f (getD-set-same l i new none b) ∙ e | no h ↦ ap (λ l. f (getD l i none)) (set-out l i new (omega arith)) ])

@@ -77,9 +77,6 @@ module _ {u : Setup} {w : State} {y : Tally} {g : Columns} (m : Sim u w y g) (sh
     abbrev g' : Columns
     g' = preempt g xi bi k
 
-    in-b : bi < g .rows
-    in-b = row-inside m b bi eb
-
     -- The walk up the stored parents.
 
     -- it goes as far as the chain
@@ -104,7 +101,7 @@ module _ {u : Setup} {w : State} {y : Tally} {g : Columns} (m : Sim u w y g) (sh
         ∙ along-at (g .names) (g .depth) (overtake k) (λ f i. f i) (λ v. v + k) (λ i. i < g .rows) (λ f. Unit {0})
         (λ i z l e. m .inv .forest .named i z l e .inside) (λ i z l e. rw (m .inv .forest .named i z l e .deeper) (lt-suc-self (g .depth z))) (λ i f l o. tt)
         (λ i f l o. upd-same f i (f i + k)) (λ i j f l o ne. upd-other f i (f i + k) j ne) (g .rows) (suc bi) (g .over)
-        (λ z e. subst (λ n. n < g .rows) (suc-inj e) in-b) tt i
+        (λ z e. subst (λ n. n < g .rows) (suc-inj e) (row-inside m b bi eb)) tt i
 
     -- on that chain the sums stay small
     few-over : (i : ℕ) → i < g .rows → onChain (g .names) (g .rows) (suc bi) i ≡ true → {n : ℕ} → n ≡ g .n i → n ≤ 256 → g .over i + k ≤ sumLimit
@@ -112,7 +109,7 @@ module _ {u : Setup} {w : State} {y : Tally} {g : Columns} (m : Sim u w y g) (sh
         let dear =
         on-ok (g .names) (λ i. (i < g .rows) × (2 ≤ costIn u (g .transport i)))
         (λ i z o q. (m .inv .forest .named i z (o .0) q .inside, m .inv .forest .named i z (o .0) q .dear)) (g .rows) (suc bi)
-        (λ z q. subst (λ z. (z < g .rows) × (2 ≤ costIn u (g .transport z))) (suc-inj q) (in-b, may .dear)) i on in
+        (λ z q. subst (λ z. (z < g .rows) × (2 ≤ costIn u (g .transport z))) (suc-inj q) (row-inside m b bi eb, may .dear)) i on in
         let small : g' .over i ≤ g .n i = kept i l (dear .1) in
         let grown : g' .over i ≡ g .over i + k = column-walk i ∙ if-true (g .over i + k) (g .over i) on in
         omega arith

@@ -39,9 +39,9 @@ use Rattle.rules.proofs.KeptPreempting.{kept-preempting}
 use Rattle.rules.proofs.Preempted.{preempting-waits, preempting-queue-own, preempting-eligible}
 use Rattle.rules.proofs.KeptPicking.{next-can, picking-cases}
 use Rattle.rules.proofs.Sim.{presentRow, Ahead, JobIs, Sim}
-use Rattle.rules.proofs.SimRows.{row-inside, present-of, present-row-is, same-row-of}
+use Rattle.rules.proofs.SimRows.{job-is, row-inside, present-of, present-row-is, same-row-of}
 use Rattle.rules.proofs.SimPick.{sim-handed-out}
-use Rattle.rules.proofs.SimTally.{NamedAlike, naming-alike, Alike, overtaken-alike}
+use Rattle.rules.proofs.SimTally.{Alike, alike-jobs, alike-transport, preempted-alike}
 use Rattle.rules.proofs.SimPreempt.{sim-preempting}
 
 -- the rows that a pick goes past: of the waiting jobs before the current job b
@@ -95,10 +95,8 @@ module _ {u : Setup} {w : State} {y : Tally} {g : Columns} (m : Sim u w y g) (sh
   -- From the current job.
 
   module _ (bi : ℕ) (eb : rowOf (y .rows) b ≡ suc bi) where
-    lane-b : g .transport bi ≡ t
-    lane-b =
-        let (l, r) = m .job b (cur .present) in
-        ap (g .transport) (suc-inj (sym eb ∙ r .link)) ∙ sym (r .transport) ∙ cur .transport
+    lane-of : g .transport bi ≡ t
+    lane-of = sym (job-is m b bi (cur .present) eb .transport) ∙ cur .transport
 
     past-lane : (i : ℕ) → i < g .rows → wentPast w (y .rows) t b i ≡ true → g .transport i ≡ t
     past-lane i l h =
@@ -115,9 +113,9 @@ module _ {u : Setup} {w : State} {y : Tally} {g : Columns} (m : Sim u w y g) (sh
           waits =
               (let (l, r) = m .job b (cur .present) in
               subst (λ n. 1 ≤ n) (r .waiting ∙ ap (g .waiting) (suc-inj (sym (r .link) ∙ eb))) (has-eligible-waits w b (cur .eligible)));
-          same = λ i l h. past-lane i l h ∙ sym lane-b;
+          same = λ i l h. past-lane i l h ∙ sym lane-of;
           some = λ i l h. past-counted w (y .rows) t b i h;
-          first = λ i l e h ne f. behind i l (e ∙ lane-b) h ne (not-past i l h (e ∙ lane-b) f);
+          first = λ i l e h ne f. behind i l (e ∙ lane-of) h ne (not-past i l h (e ∙ lane-of) f);
         }
       where
         behind : (i : ℕ) → i < g .rows → g .transport i ≡ t → 1 ≤ g .waiting i → i ≢ bi → (rowAt (y .rows) i .job ≡ b) ⊎ Before b (rowAt (y .rows) i .job) (queueOf w t)
@@ -155,15 +153,14 @@ module _ {u : Setup} {w : State} {y : Tally} {g : Columns} (m : Sim u w y g) (sh
     kept : Shaped moved × Sound moved
     kept = kept-preempting w now t b x shaped sound below cur p
 
-    row-of-between : (z : ℕ) → rowOf rows z ≡ rowOf (y .rows) z
-    row-of-between =
-        same-row-of (y .rows) rows (overtaken-alike (suc bi) k _ .length ∙ naming-alike (y .rows) xi (suc bi) .length)
-        (λ i. overtaken-alike (suc bi) k _ .job i ∙ naming-alike (y .rows) xi (suc bi) .job i)
+    like : Alike (y .rows) rows
+    like = preempted-alike xi (suc bi) k (y .rows)
 
-    lane-x : g .transport xi ≡ t
-    lane-x =
-        let (l, r) = m .job x (p .present) in
-        ap (g .transport) (suc-inj (sym ex ∙ r .link)) ∙ sym (r .transport) ∙ p .transport
+    row-of-between : (z : ℕ) → rowOf rows z ≡ rowOf (y .rows) z
+    row-of-between = same-row-of (y .rows) rows (like .length) (alike-jobs like)
+
+    lane-mover : g .transport xi ≡ t
+    lane-mover = sym (job-is m x xi (p .present) ex .transport) ∙ p .transport
 
     from-preemptor : Picking (preempt g xi bi k) (Ahead moved rows) xi (passedOver w t b) (wentPast w (y .rows) t b)
     from-preemptor =
@@ -172,9 +169,9 @@ module _ {u : Setup} {w : State} {y : Tally} {g : Columns} (m : Sim u w y g) (sh
           waits =
               (let (l, r) = m .job x (p .present) in
               subst (λ n. 1 ≤ n) (r .waiting ∙ ap (g .waiting) (suc-inj (sym (r .link) ∙ ex))) (p .waits));
-          same = λ i l h. past-lane bi eb i l h ∙ sym lane-x;
+          same = λ i l h. past-lane bi eb i l h ∙ sym lane-mover;
           some = λ i l h. past-counted w (y .rows) t b i h;
-          first = λ i l e h ne f. behind i l (e ∙ lane-x) h ne (not-past i l h (e ∙ lane-x) f);
+          first = λ i l e h ne f. behind i l (e ∙ lane-mover) h ne (not-past i l h (e ∙ lane-mover) f);
         }
       where
         apart : b ≢ x
@@ -199,7 +196,7 @@ module _ {u : Setup} {w : State} {y : Tally} {g : Columns} (m : Sim u w y g) (sh
 
     -- the transport that the pick counts for
     same-lane : rowAt rows xi .transport ≡ rowAt (y .rows) xi .transport
-    same-lane = overtaken-alike (suc bi) k _ .transport xi ∙ naming-alike (y .rows) xi (suc bi) .transport xi
+    same-lane = alike-transport like xi
 
     same-pick : (n : ℕ) → withPickAt between (suc xi) n rows ≡ withPickAt y (suc xi) n rows
     unfolding withPickAt

@@ -34,9 +34,9 @@ use Rattle.rules.proofs.Shape.{Shaped}
 use Rattle.rules.proofs.Picked.{Current, queue-once}
 use Rattle.rules.proofs.Preemptor.{Preempts}
 use Rattle.rules.proofs.Sim.{costIn, presentRow, jobLink, Ahead, RowIs, JobIs, Sim}
-use Rattle.rules.proofs.SimRows.{row-inside, rows-apart, present-of, same-row-of, same-link, same-present}
+use Rattle.rules.proofs.SimRows.{job-is, row-inside, rows-apart, present-of, same-row-of, same-link, same-present}
 use Rattle.rules.proofs.SimChain.{link-to-job}
-use Rattle.rules.proofs.SimTally.{NamedAlike, naming-alike, naming-names, Alike, overtaken-alike, overtaken-column}
+use Rattle.rules.proofs.SimTally.{Alike, alike-jobs, naming-alike, naming-overtakers, naming-names, overtaken-names, preempted-alike, overtaken-column}
 use Rattle.rules.proofs.SimOvertaking.{over-after}
 use Rattle.rules.proofs.Preempted.{preempting-waits, preempting-queue-own, preempting-queue-other, preempting-sold-own, preempting-sold-other, preempting-parent-own, preempting-parent-other, preempting-marked-own, preempting-marked-other}
 
@@ -61,31 +61,24 @@ module _ {u : Setup} {w : State} {y : Tally} {g : Columns} (m : Sim u w y g) (sh
 
   -- what the simulation says of both jobs
 
-  job-b : JobIs w (y .rows) g b bi
-  job-b =
-      let (l, r) = m .job b (cur .present) in
-      subst (JobIs w (y .rows) g b) (suc-inj (sym (r .link) ∙ eb)) r
+  abbrev job-b : JobIs w (y .rows) g b bi
+  job-b = job-is m b bi (cur .present) eb
 
-  job-x : JobIs w (y .rows) g x xi
-  job-x =
-      let (l, r) = m .job x (p .present) in
-      subst (JobIs w (y .rows) g x) (suc-inj (sym (r .link) ∙ ex)) r
+  abbrev job-x : JobIs w (y .rows) g x xi
+  job-x = job-is m x xi (p .present) ex
 
-  lane-b : g .transport bi ≡ t
-  lane-b = sym (job-b .transport) ∙ cur .transport
-
-  lane-x : g .transport xi ≡ t
-  lane-x = sym (job-x .transport) ∙ p .transport
+  lane : g .transport bi ≡ t
+  lane = sym (job-b .transport) ∙ cur .transport
 
   cost-is : costIn u (g .transport bi) ≡ settingsOf w t .cost
-  cost-is = ap (costIn u) lane-b ∙ ap (λ v. costIn v t) (sym (m .setup))
+  cost-is = ap (costIn u) lane ∙ ap (λ v. costIn v t) (sym (m .setup))
 
   may : Preempting (costIn u) g xi bi k
   may =
       record {
         inside = row-inside m x xi ex;
         other = row-inside m b bi eb;
-        same = lane-x ∙ sym lane-b;
+        same = sym (job-x .transport) ∙ p .transport ∙ sym lane;
         dear = subst (λ c. 2 ≤ c) (sym cost-is) (p .cost);
         unpicked = sym (job-x .picked) ∙ p .unpicked;
         unnaming = job-x .unmarked (p .unmarked);
@@ -99,49 +92,43 @@ module _ {u : Setup} {w : State} {y : Tally} {g : Columns} (m : Sim u w y g) (sh
 
   -- the rows
 
-  like : Alike named rows
-  like = overtaken-alike (suc bi) k named
+  like : Alike (y .rows) rows
+  like = preempted-alike xi (suc bi) k (y .rows)
 
-  keeps : NamedAlike (y .rows) named
-  keeps = naming-alike (y .rows) xi (suc bi)
-
-  in-x : xi < g .rows
-  in-x = row-inside m x xi ex
-
-  in-b : bi < g .rows
-  in-b = row-inside m b bi eb
+  abbrev inside : bi < g .rows
+  inside = row-inside m b bi eb
 
   names-after : (i : ℕ) → i < g .rows → rowAt named i .names ≡ upd (g .names) xi (suc bi) i
   names-after i l =
-      naming-names (y .rows) xi (suc bi) (subst (λ n. xi < n) (sym (m .rows)) in-x) i
+      naming-names (y .rows) xi (suc bi) (subst (λ n. xi < n) (sym (m .rows)) (row-inside m x xi ex)) i
       ∙ upd-agree-at (λ i. rowAt (y .rows) i .names) (g .names) xi (suc bi) i (m .row i l .names)
 
   -- the names stay inside
   closed : (i z : ℕ) → i < g .rows → upd (g .names) xi (suc bi) i ≡ suc z → z < g .rows
   closed i z l =
-      upd-all (λ i v. i < g .rows → v ≡ suc z → z < g .rows) (g .names) xi (suc bi) (λ b e. subst (λ n. n < g .rows) (suc-inj e) in-b)
+      upd-all (λ i v. i < g .rows → v ≡ suc z → z < g .rows) (g .names) xi (suc bi) (λ b e. subst (λ n. n < g .rows) (suc-inj e) inside)
       (λ i ne b e. m .inv .forest .named i z b e .inside) i l
 
   row-after : (i : ℕ) → i < g .rows → RowIs g' i (rowAt rows i)
   row-after i l =
       let r = m .row i l in
       record {
-        transport = like .transport i ∙ keeps .transport i ∙ r .transport;
-        n = like .n i ∙ keeps .n i ∙ r .n;
-        upto = like .upto i ∙ keeps .upto i ∙ r .upto;
+        transport = ap (λ r. r .transport) (like .rest i) ∙ r .transport;
+        n = ap (λ r. r .n) (like .rest i) ∙ r .n;
+        upto = ap (λ r. r .upto) (like .rest i) ∙ r .upto;
         overtakers =
-            overtaken-column (upd (g .names) xi (suc bi)) (suc bi) k (g .rows) named (g .over) (keeps .length ∙ m .rows)
-            (λ i l. keeps .overtakers i ∙ m .row i l .overtakers) names-after closed (λ z e. subst (λ n. n < g .rows) (suc-inj e) in-b) i l;
-        names = like .names i ∙ names-after i l;
-        lastpick = like .lastpick i ∙ keeps .lastpick i ∙ r .lastpick;
-        lasttotal = like .lasttotal i ∙ keeps .lasttotal i ∙ r .lasttotal;
+            overtaken-column (upd (g .names) xi (suc bi)) (suc bi) k (g .rows) named (g .over) (naming-alike (y .rows) xi (suc bi) .length ∙ m .rows)
+            (λ i l. naming-overtakers (y .rows) xi (suc bi) i ∙ m .row i l .overtakers) names-after closed (λ z e. subst (λ n. n < g .rows) (suc-inj e) inside) i l;
+        names = overtaken-names (suc bi) k named i ∙ names-after i l;
+        lastpick = ap (λ r. r .lastpick) (like .rest i) ∙ r .lastpick;
+        lasttotal = ap (λ r. r .lasttotal) (like .rest i) ∙ r .lasttotal;
       }
 
   same-length : length rows ≡ length (y .rows)
-  same-length = like .length ∙ keeps .length
+  same-length = like .length
 
   same-jobs : (i : ℕ) → rowAt rows i .job ≡ rowAt (y .rows) i .job
-  same-jobs i = like .job i ∙ keeps .job i
+  same-jobs = alike-jobs like
 
   row-of-after : (z : ℕ) → rowOf rows z ≡ rowOf (y .rows) z
   row-of-after = same-row-of (y .rows) rows same-length same-jobs
@@ -235,7 +222,7 @@ module _ {u : Setup} {w : State} {y : Tally} {g : Columns} (m : Sim u w y g) (sh
 
   up-x : near (presentRow after rows) (g' .names) (g .rows) xi ≡ suc bi
   unfolding near
-  up-x = ap (firstAlong (presentRow after rows) (g' .names) (g .rows)) (upd-same (g .names) xi (suc bi)) ∙ found (g .rows) in-b
+  up-x = ap (firstAlong (presentRow after rows) (g' .names) (g .rows)) (upd-same (g .names) xi (suc bi)) ∙ found (g .rows) inside
     where
       found : (n : ℕ) → bi < n → firstAlong (presentRow after rows) (g' .names) n (suc bi) ≡ suc bi
       found zero l = absurd (not-suc-le-zero l)

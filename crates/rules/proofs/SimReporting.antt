@@ -19,7 +19,7 @@ use Rattle.laws.proofs.Onto.{ends-near, first-near, near-same}
 use Rattle.laws.proofs.Order.{before-kept}
 use Rattle.ceiling.specs.Columns.{Columns, sold}
 use Rattle.ceiling.specs.Steps.{lessen}
-use Rattle.ceiling.proofs.Ceilings.{chains-end}
+use Rattle.ceiling.proofs.Ceilings.{names-end}
 use Rattle.ceiling.proofs.Invariant.{inv-lessen, inv-leave}
 use Rattle.rules.specs.declared.Setup.{Setup}
 use Rattle.rules.specs.declared.State.{State}
@@ -94,11 +94,6 @@ module _ {u : Setup} {w : State} {y : Tally} {g : Columns} (m : Sim u w y g) (no
       if-false _ _ f ∙ ap (firstAlong (isPresent after) (parentOf w) n) (parent-up m z (h z refl)) ∙ same-first n (up m z) (up-present m z)
       ∙ sym (ap (jobLink (y .rows)) (if-false (suc z) (firstAlong rowStays (up m) n (up m z)) f)))
 
-  ends-names : (i : ℕ) → i < g .rows → endsIn (g .names) (g .rows) (g .names i) ≡ true
-  ends-names i l =
-      link-cases (λ k. endsIn (g .names) (g .rows) k ≡ true) (g .names i) (ends-zero (g .names) (g .rows))
-      (λ z e. chains-end (m .inv) z (m .inv .forest .named i z l e .inside))
-
   parent-after : (j i : ℕ) → isPresent after j ≡ true → JobIs w (y .rows) g j i
       → parentOf after j ≡ jobLink (y .rows) (near (presentRow after (y .rows)) (g .names) (g .rows) i)
   unfolding near settled
@@ -116,8 +111,8 @@ module _ {u : Setup} {w : State} {y : Tally} {g : Columns} (m : Sim u w y g) (no
       ∙ same-first (32 + g .rows) (up m i) (up-present m i)
       ∙ ap (jobLink (y .rows))
       (first-along-enough rowStays (up m) (g .rows) (32 + g .rows) (up m i) (omega arith)
-      (ends-near (presentRow w (y .rows)) (g .names) (g .rows) (g .rows) (g .names i) (omega arith) (ends-names i l))
-      ∙ first-near (presentRow w (y .rows)) (g .names) (g .rows) rowStays (g .rows) (g .names i) (omega arith) (ends-names i l)
+      (ends-near (presentRow w (y .rows)) (g .names) (g .rows) (g .rows) (g .names i) (omega arith) (names-end (m .inv) i l))
+      ∙ first-near (presentRow w (y .rows)) (g .names) (g .rows) rowStays (g .rows) (g .names i) (omega arith) (names-end (m .inv) i l)
       ∙ sym (near-same (presentRow after (y .rows)) (λ i. presentRow w (y .rows) i && rowStays i) (g .names) (g .rows) i (λ i. unfold rowStays in present-after i)))
 
   jobs-after : (j : ℕ) → isPresent after j ≡ true → (i : ℕ) × JobIs after (y .rows) (lessen g left) j i

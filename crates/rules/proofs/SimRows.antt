@@ -1,6 +1,6 @@
 -- What the simulation says of rows and jobs, and what leaves it alone.
 use Prim.Native.Nat.{ℕ, zero, suc, _<_}
-use mathlib.Core.Path.{_≡_, refl, sym, _∙_, ap, ap₂}
+use mathlib.Core.Path.{_≡_, refl, sym, _∙_, ap, ap₂, subst}
 use mathlib.Core.Logic.{_≢_}
 use mathlib.Core.Bool.{true, false, _&&_}
 use mathlib.Core.List.{List}
@@ -18,11 +18,17 @@ use Rattle.rules.specs.declared.State.{State}
 use Rattle.rules.specs.State.{isPresent}
 use Rattle.rules.specs.Tally.{Row, Tally, noRow, rowAt, rowOf}
 use Rattle.rules.proofs.Rows.{row-of-is, row-of-same}
-use Rattle.rules.proofs.Sim.{presentRow, jobLink, Sim}
+use Rattle.rules.proofs.Sim.{presentRow, jobLink, JobIs, Sim}
 
 -- the row that a job's link leads to is there, and is its own
 pub row-inside : {u : Setup} {s : State} {y : Tally} {g : Columns} → Sim u s y g → (j i : ℕ) → rowOf (y .rows) j ≡ suc i → i < g .rows
 row-inside {y = y} m j i e = rw (m .rows) at (row-of-is (y .rows) j i e .0)
+
+-- what the columns say of a present job, at its row
+pub job-is : {u : Setup} {s : State} {y : Tally} {g : Columns} → Sim u s y g → (j i : ℕ) → isPresent s j ≡ true → rowOf (y .rows) j ≡ suc i → JobIs s (y .rows) g j i
+job-is {s = s} {y = y} {g = g} m j i h e =
+    let (l, r) = m .job j h in
+    subst (JobIs s (y .rows) g j) (suc-inj (sym (r .link) ∙ e)) r
 
 -- different jobs have different rows
 pub rows-apart : (rows : List Row) (j k a b : ℕ) → rowOf rows j ≡ suc a → rowOf rows k ≡ suc b → j ≢ k → a ≢ b
@@ -68,5 +74,5 @@ module _ (rows : List Row) (i : ℕ) (new : Row) where
   pub row-other : (k : ℕ) → k ≢ i → rowAt (set rows i new) k ≡ rowAt rows k
   row-other k ne = getD-set-other rows i k new noRow ne
 
-  pub row-field : (f : Row → ℕ) → f new ≡ f (rowAt rows i) → (k : ℕ) → f (rowAt (set rows i new) k) ≡ f (rowAt rows k)
+  pub row-field : {B : Type 0} (f : Row → B) → f new ≡ f (rowAt rows i) → (k : ℕ) → f (rowAt (set rows i new) k) ≡ f (rowAt rows k)
   row-field = set-field noRow rows i new

@@ -28,7 +28,7 @@ use Rattle.laws.proofs.Order.{before-append-cases, before-left, before-right}
 use Rattle.ceiling.specs.Columns.{Columns, sold, ofTransport}
 use Rattle.ceiling.specs.Steps.{addRow}
 use Rattle.ceiling.proofs.Forest.{sold-add, sold-add-new}
-use Rattle.ceiling.proofs.Ceilings.{chains-end}
+use Rattle.ceiling.proofs.Ceilings.{names-end}
 use Rattle.ceiling.proofs.Invariant.{inv-add}
 use Rattle.rules.specs.declared.Setup.{Setup}
 use Rattle.rules.specs.declared.State.{State}
@@ -140,10 +140,6 @@ module _ {u : Setup} {w : State} {y : Tally} {g : Columns} (m : Sim u w y g) (j 
   closed' : (i z : ℕ) → i < g .rows → g' .names i ≡ suc z → z < g .rows
   closed' i z l e = closed i z l (sym (upd-below (g .names) (g .rows) 0 i l) ∙ e)
 
-  ends-old : (i : ℕ) → i < g .rows → endsIn (g .names) (g .rows) (g .names i) ≡ true
-  ends-old i l =
-      link-cases (λ k. endsIn (g .names) (g .rows) k ≡ true) (g .names i) (ends-zero (g .names) (g .rows)) (λ z e. chains-end (m .inv) z (closed i z l e))
-
   up-old : (i : ℕ) → i < g .rows → near (presentRow after rows) (g' .names) (suc (g .rows)) i ≡ near (presentRow w (y .rows)) (g .names) (g .rows) i
   unfolding near
   up-old i l =
@@ -152,7 +148,7 @@ module _ {u : Setup} {w : State} {y : Tally} {g : Columns} (m : Sim u w y g) (j 
       ∙ first-along-same (g' .names) (g .names) (λ z. z < g .rows) closed' (λ z l. upd-below (g .names) (g .rows) 0 z l) (presentRow w (y .rows)) (suc (g .rows))
       (g' .names i) (λ z e. closed' i z l e)
       ∙ ap (firstAlong (presentRow w (y .rows)) (g .names) (suc (g .rows))) (upd-below (g .names) (g .rows) 0 i l)
-      ∙ first-along-enough (presentRow w (y .rows)) (g .names) (g .rows) (suc (g .rows)) (g .names i) (omega arith) (ends-old i l)
+      ∙ first-along-enough (presentRow w (y .rows)) (g .names) (g .rows) (suc (g .rows)) (g .names i) (omega arith) (names-end (m .inv) i l)
 
   up-new : near (presentRow after rows) (g' .names) (suc (g .rows)) (g .rows) ≡ 0
   unfolding near

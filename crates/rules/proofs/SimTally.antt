@@ -14,35 +14,35 @@ use Rattle.laws.proofs.Chain.{along-keeps, along-related, along-same}
 use Rattle.ceiling.specs.Columns.{Columns}
 use Rattle.ceiling.specs.Steps.{Preempting, preempt, overtake}
 use Rattle.ceiling.proofs.Forest.{Forest}
-use Rattle.rules.specs.Tally.{Row, rowAt, overtakenBy, naming, overtaken}
+use Rattle.rules.specs.Tally.{Row, rowAt, withNotes, overtakenBy, naming, overtaken}
 use Rattle.rules.proofs.Sim.{RowIs}
 use Rattle.rules.proofs.SimRows.{row-same, row-other, row-field}
 
--- X's row names Y's: what that leaves alone
-pub record NamedAlike (rows other : List Row) : Type 0 where
+-- the rows but for their overtakers and whom they name
+abbrev apart : Row → Row
+apart r = withNotes r 0 0 (r .lastpick) (r .lasttotal)
+
+-- what a preemption leaves alone
+pub record Alike (rows other : List Row) : Type 0 where
   pub length : length other ≡ length rows
-  pub job : (k : ℕ) → rowAt other k .job ≡ rowAt rows k .job
-  pub transport : (k : ℕ) → rowAt other k .transport ≡ rowAt rows k .transport
-  pub n : (k : ℕ) → rowAt other k .n ≡ rowAt rows k .n
-  pub upto : (k : ℕ) → rowAt other k .upto ≡ rowAt rows k .upto
-  pub overtakers : (k : ℕ) → rowAt other k .overtakers ≡ rowAt rows k .overtakers
-  pub lastpick : (k : ℕ) → rowAt other k .lastpick ≡ rowAt rows k .lastpick
-  pub lasttotal : (k : ℕ) → rowAt other k .lasttotal ≡ rowAt rows k .lasttotal
+  pub rest : (k : ℕ) → apart (rowAt other k) ≡ apart (rowAt rows k)
+
+pub alike-jobs : {rows other : List Row} → Alike rows other → (k : ℕ) → rowAt other k .job ≡ rowAt rows k .job
+alike-jobs a k = ap (λ r. r .job) (a .rest k)
+
+pub alike-transport : {rows other : List Row} → Alike rows other → (k : ℕ) → rowAt other k .transport ≡ rowAt rows k .transport
+alike-transport a k = ap (λ r. r .transport) (a .rest k)
+
+-- X's row names Y's
 
 module _ (rows : List Row) (i link : ℕ) where
-  pub naming-alike : NamedAlike rows (naming i link rows)
+  pub naming-alike : Alike rows (naming i link rows)
   unfolding naming
-  naming-alike =
-      record {
-        length = length-set rows i _;
-        job = row-field rows i _ (λ r. r .job) refl;
-        transport = row-field rows i _ (λ r. r .transport) refl;
-        n = row-field rows i _ (λ r. r .n) refl;
-        upto = row-field rows i _ (λ r. r .upto) refl;
-        overtakers = row-field rows i _ (λ r. r .overtakers) refl;
-        lastpick = row-field rows i _ (λ r. r .lastpick) refl;
-        lasttotal = row-field rows i _ (λ r. r .lasttotal) refl;
-      }
+  naming-alike = record { length = length-set rows i _; rest = row-field rows i _ apart refl }
+
+  pub naming-overtakers : (k : ℕ) → rowAt (naming i link rows) k .overtakers ≡ rowAt rows k .overtakers
+  unfolding naming
+  naming-overtakers = row-field rows i _ (λ r. r .overtakers) refl
 
   pub naming-names : i < length rows → (k : ℕ) → rowAt (naming i link rows) k .names ≡ upd (λ k. rowAt rows k .names) i link k
   unfolding naming
@@ -50,46 +50,32 @@ module _ (rows : List Row) (i link : ℕ) where
       upd-all (λ k v. rowAt (naming i link rows) k .names ≡ v) (λ k. rowAt rows k .names) i link
       (ap (λ r. r .names) (row-same rows i _ l)) (λ k ne. ap (λ r. r .names) (row-other rows i _ k ne))
 
--- what an overtaking leaves alone
-pub record Alike (rows other : List Row) : Type 0 where
-  pub length : length other ≡ length rows
-  pub job : (k : ℕ) → rowAt other k .job ≡ rowAt rows k .job
-  pub transport : (k : ℕ) → rowAt other k .transport ≡ rowAt rows k .transport
-  pub n : (k : ℕ) → rowAt other k .n ≡ rowAt rows k .n
-  pub upto : (k : ℕ) → rowAt other k .upto ≡ rowAt rows k .upto
-  pub names : (k : ℕ) → rowAt other k .names ≡ rowAt rows k .names
-  pub lastpick : (k : ℕ) → rowAt other k .lastpick ≡ rowAt rows k .lastpick
-  pub lasttotal : (k : ℕ) → rowAt other k .lasttotal ≡ rowAt rows k .lasttotal
+-- the rows up the chain are overtaken
 
 alike-step : (m i : ℕ) {rows other : List Row} → Alike rows other → Alike rows (overtakenBy m i other)
 unfolding overtakenBy
-alike-step m i {rows} {other} a =
-    record {
-      length = length-set other i _ ∙ a .length;
-      job = λ k. row-field other i _ (λ r. r .job) refl k ∙ a .job k;
-      transport = λ k. row-field other i _ (λ r. r .transport) refl k ∙ a .transport k;
-      n = λ k. row-field other i _ (λ r. r .n) refl k ∙ a .n k;
-      upto = λ k. row-field other i _ (λ r. r .upto) refl k ∙ a .upto k;
-      names = λ k. row-field other i _ (λ r. r .names) refl k ∙ a .names k;
-      lastpick = λ k. row-field other i _ (λ r. r .lastpick) refl k ∙ a .lastpick k;
-      lasttotal = λ k. row-field other i _ (λ r. r .lasttotal) refl k ∙ a .lasttotal k;
-    }
+alike-step m i {rows} {other} a = record { length = length-set other i _ ∙ a .length; rest = λ k. row-field other i _ apart refl k ∙ a .rest k }
 
-pub overtaken-alike : (link m : ℕ) (rows : List Row) → Alike rows (overtaken link m rows)
-unfolding overtaken
-overtaken-alike link m rows =
-    along-keeps (λ i. rowAt rows i .names) (overtakenBy m) (λ x. Unit {0}) (Alike rows) (λ x y o e. tt) (λ x a o h. alike-step m x h)
-    (length rows) link rows (λ x e. tt)
-    (record {
-      length = refl;
-      job = λ k. refl;
-      transport = λ k. refl;
-      n = λ k. refl;
-      upto = λ k. refl;
-      names = λ k. refl;
-      lastpick = λ k. refl;
-      lasttotal = λ k. refl;
-    })
+module _ (link m : ℕ) (rows : List Row) where
+  overtaken-alike : Alike rows (overtaken link m rows)
+  unfolding overtaken
+  overtaken-alike =
+      along-keeps (λ i. rowAt rows i .names) (overtakenBy m) (λ x. Unit {0}) (Alike rows) (λ x y o e. tt) (λ x a o h. alike-step m x h)
+      (length rows) link rows (λ x e. tt)
+      (record { length = refl; rest = λ k. refl })
+
+  pub overtaken-names : (k : ℕ) → rowAt (overtaken link m rows) k .names ≡ rowAt rows k .names
+  unfolding overtaken
+  overtaken-names =
+      along-keeps (λ i. rowAt rows i .names) (overtakenBy m) (λ x. Unit {0}) (λ other. (k : ℕ) → rowAt other k .names ≡ rowAt rows k .names) (λ x y o e. tt)
+      (λ x a o h k. unfold overtakenBy in row-field a x _ (λ r. r .names) refl k ∙ h k) (length rows) link rows (λ x e. tt) (λ k. refl)
+
+-- both: row x names row y, and the rows from there on are overtaken
+pub preempted-alike : (x link m : ℕ) (rows : List Row) → Alike rows (overtaken link m (naming x link rows))
+preempted-alike x link m rows =
+    let first = naming-alike rows x link in
+    let then = overtaken-alike link m (naming x link rows) in
+    record { length = then .length ∙ first .length; rest = λ k. then .rest k ∙ first .rest k }
 
 -- the overtakers of the rows are those of a column
 abbrev Overs : ℕ → List Row → (ℕ → ℕ) → Type 0
