@@ -1,14 +1,13 @@
 -- Laws of allTo and anyTo.
-use Prim.Native.Nat.{ℕ, zero, suc, _+_, _≤_, _<_}
+use Prim.Native.Nat.{ℕ, zero, suc, _+_, _<_}
 use mathlib.Core.Bool.{Bool, true, false, not, _&&_, _||_, false≢true}
 use mathlib.Core.Path.{_≡_, refl, sym, _∙_, ap, ap₂, subst}
 use mathlib.Core.Logic.{_≢_, ⊎-elim}
-use native.Mathlib.Nat.{le-step, lt-suc-self, not-suc-le-zero, lt-of-lt-of-le, le-of-suc-le-suc, eq-or-lt-of-le}
+use native.Mathlib.Nat.{le-step, lt-suc-self, not-suc-le-zero, le-of-suc-le-suc, eq-or-lt-of-le}
 use native.Mathlib.Numerals.{add-one}
-use native.Mathlib.Decide.{ℕ-discrete}
 use borrow.Author.Tests.{not-true}
 use Rattle.laws.specs.Range.{allTo, anyTo}
-use Rattle.laws.proofs.Choice.{true-not-false, false-of, bool-same, not-is-true, and-both, and-left, and-right, or-left, or-right, or-cases, or-neither, not-and, not-or}
+use Rattle.laws.proofs.Choice.{true-not-false, false-of, not-is-true, and-both, and-left, and-right, or-left, or-right, or-cases, or-neither, not-and}
 
 -- what holds below n and at n holds below suc n
 pub below-suc {ℓ} : (P : ℕ → Type ℓ) (n : ℕ) → ((i : ℕ) → i < n → P i) → P n → (i : ℕ) → i < suc n → P i
@@ -28,9 +27,6 @@ module _ (p : ℕ → Bool) where
   pub all-step : (i : ℕ) → allTo p (i + 1) ≡ allTo p i && p i
   unfolding allTo
   all-step i = rw add-one
-
-  pub all-less : {m n : ℕ} → m ≤ n → allTo p n ≡ true → allTo p m ≡ true
-  all-less {m} {n} le h = all-from m λ i l. all-at n h i (lt-of-lt-of-le l le)
 
   pub all-false-of : (n i : ℕ) → i < n → p i ≡ false → allTo p n ≡ false
   all-false-of n i l f = false-of λ t. true-not-false (all-at n t i l) f
@@ -57,14 +53,6 @@ module _ (p : ℕ → Bool) where
   pub any-step : (i : ℕ) → anyTo p (i + 1) ≡ anyTo p i || p i
   unfolding anyTo
   any-step i = rw add-one
-
-  pub any-more : {m n : ℕ} → m ≤ n → anyTo p m ≡ true → anyTo p n ≡ true
-  any-more {m} {n} le h = let w = any-witness m h in any-of n (w .0) (lt-of-lt-of-le (w .1) le) (w .2)
-
-  pub not-any : (n : ℕ) → not (anyTo p n) ≡ allTo (λ i. not (p i)) n
-  unfolding allTo anyTo
-  not-any zero = refl
-  not-any (suc n) = not-or (anyTo p n) (p n) ∙ ap (λ b. b && not (p n)) (not-any n)
 
   pub not-all : (n : ℕ) → not (allTo p n) ≡ anyTo (λ i. not (p i)) n
   unfolding allTo anyTo
@@ -98,20 +86,6 @@ all-false-witness p n h =
     (w .0, w .1, not-true (p (w .0)) (w .2))
 
 module _ (p q : ℕ → Bool) where
-  pub all-same : (n : ℕ) → ((i : ℕ) → i < n → p i ≡ q i) → allTo p n ≡ allTo q n
-  unfolding allTo
-  all-same zero h = refl
-  all-same (suc n) h = ap₂ _&&_ (all-same n λ i l. h i (le-step l)) (h n (lt-suc-self n))
-
-  pub all-imp : (n : ℕ) → ((i : ℕ) → i < n → p i ≡ true → q i ≡ true) → allTo p n ≡ true → allTo q n ≡ true
-  all-imp n h t = all-from q n λ i l. h i l (all-at p n t i l)
-
-  pub all-and : (n : ℕ) → allTo (λ i. p i && q i) n ≡ allTo p n && allTo q n
-  all-and n =
-      bool-same
-      (λ h. and-both (all-from p n λ i l. and-left (p i) (q i) (all-at (λ i. p i && q i) n h i l)) (all-from q n λ i l. and-right (p i) (q i) (all-at (λ i. p i && q i) n h i l)))
-      (λ h. all-from (λ i. p i && q i) n λ i l. and-both (all-at p n (and-left (allTo p n) (allTo q n) h) i l) (all-at q n (and-right (allTo p n) (allTo q n) h) i l))
-
   pub any-same : (n : ℕ) → ((i : ℕ) → i < n → p i ≡ q i) → anyTo p n ≡ anyTo q n
   unfolding anyTo
   any-same zero h = refl
@@ -119,7 +93,3 @@ module _ (p q : ℕ → Bool) where
 
   pub any-imp : (n : ℕ) → ((i : ℕ) → i < n → p i ≡ true → q i ≡ true) → anyTo p n ≡ true → anyTo q n ≡ true
   any-imp n h t = let w = any-witness p n t in any-of q n (w .0) (w .1) (h (w .0) (w .1) (w .2))
-
-  -- the tests agree but for one number
-  pub all-change : (n i : ℕ) → ((j : ℕ) → j < n → j ≢ i → p j ≡ q j) → q i ≡ true → allTo p n ≡ true → allTo q n ≡ true
-  all-change n i same t h = all-from q n λ j l. elim (ℕ-discrete j i) [ yes e ↦ rw e t | no ne ↦ sym (same j l ne) ∙ all-at p n h j l ]

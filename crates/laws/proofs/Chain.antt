@@ -2,8 +2,7 @@
 use Prim.Native.Nat.{ℕ, zero, suc, _≤_, _<_}
 use mathlib.Core.Bool.{Bool, true, false}
 use mathlib.Core.Path.{_≡_, refl, sym, _∙_, ap, subst}
-use mathlib.Core.Logic.{_⊎_, inl, inr, ⊎-elim}
-use native.Mathlib.Nat.{not-suc-le-zero, le-of-suc-le-suc, suc-inj, lt-of-lt-of-le, lt-trans, le-refl, lt-suc-self}
+use native.Mathlib.Nat.{not-suc-le-zero, le-of-suc-le-suc, suc-inj, lt-of-lt-of-le, lt-trans, le-refl}
 use native.Mathlib.Omega.{arith}
 use lib.Dec.{ltb}
 use borrow.Author.Tests.{ltb-true, lt-ltb, le-ltb}
@@ -45,9 +44,6 @@ module _ (next : ℕ → ℕ) where
     ends-falling depth falls (suc n) x o h =
         link-cases (λ k. endsIn next n k ≡ true) (next x) (ends-zero n) λ y e.
         ends-falling depth falls n y (closed x y o e) (lt-of-lt-of-le (falls x y o e) (le-of-suc-le-suc h))
-
-  pub ends-depth : (depth : ℕ → ℕ) → ((x y : ℕ) → next x ≡ suc y → depth y < depth x) → (x : ℕ) → endsIn next (suc (depth x)) (suc x) ≡ true
-  ends-depth depth falls x = ends-falling (λ y. Unit {0}) (λ x y o e. tt) depth (λ x y o. falls x y) (suc (depth x)) x tt (lt-suc-self (depth x))
 
   -- the chain stays below n: it has at most n elements
   pub ends-below : (depth : ℕ → ℕ) (n : ℕ) → ((x y : ℕ) → x < n → next x ≡ suc y → y < n) → ((x y : ℕ) → x < n → next x ≡ suc y → depth y < depth x)
@@ -143,19 +139,6 @@ module _ (p : ℕ → Bool) (next : ℕ → ℕ) where
 
   pub first-along-passes : (n k x : ℕ) → firstAlong p next n k ≡ suc x → p x ≡ true
   first-along-passes n k x e = first-along-ok (λ y. Unit {0}) (λ x y o e. tt) n k (λ x e. tt) x e .1
-
-  pub first-along-cases : (n k : ℕ) → (firstAlong p next n k ≡ 0) ⊎ ((x : ℕ) × (firstAlong p next n k ≡ suc x) × (p x ≡ true))
-  first-along-cases n k =
-      link-cases (λ r. firstAlong p next n k ≡ r → (firstAlong p next n k ≡ 0) ⊎ ((x : ℕ) × (firstAlong p next n k ≡ suc x) × (p x ≡ true)))
-      (firstAlong p next n k) inl (λ x q e. inr (x, e, first-along-passes n k x e)) refl
-
-  -- nothing along the chain passes
-  pub first-along-none : (ok : ℕ → Type 0) → ((x y : ℕ) → ok x → next x ≡ suc y → ok y) → ((x : ℕ) → ok x → p x ≡ false)
-      → (n k : ℕ) → ((x : ℕ) → k ≡ suc x → ok x) → firstAlong p next n k ≡ 0
-  first-along-none ok closed fails n k o =
-      ⊎-elim (λ e. e)
-      (λ w. let r = first-along-ok ok closed n k o (w .0) (w .1) in true-not-false (r .1) (fails (w .0) (r .0)))
-      (first-along-cases n k)
 
 -- another next that agrees along the chain
 

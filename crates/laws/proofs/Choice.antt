@@ -13,10 +13,6 @@ use Rattle.laws.specs.Choice.{if_then_else_, one}
 pub true-not-false {ℓ} : {P : Type ℓ} {b : Bool} → b ≡ true → b ≡ false → P
 true-not-false t f = absurd (true≢false (sym t ∙ f))
 
-pub bool-cases : (b : Bool) → (b ≡ true) ⊎ (b ≡ false)
-bool-cases true = inl refl
-bool-cases false = inr refl
-
 pub case-bool {ℓ} : {P : Type ℓ} (b : Bool) → (b ≡ true → P) → (b ≡ false → P) → P
 case-bool true t f = t refl
 case-bool false t f = f refl
@@ -92,10 +88,6 @@ pub not-and : (a b : Bool) → not (a && b) ≡ not a || not b
 not-and true b = refl
 not-and false b = refl
 
-pub not-or : (a b : Bool) → not (a || b) ≡ not a && not b
-not-or true b = refl
-not-or false b = refl
-
 -- if
 
 module _ {ℓ} {A : Type ℓ} where
@@ -112,27 +104,11 @@ module _ {ℓ} {A : Type ℓ} where
   if-same true x = refl
   if-same false x = refl
 
-  pub if-not : (b : Bool) (x y : A) → (if not b then x else y) ≡ (if b then y else x)
-  unfolding if_then_else_
-  if-not true x y = refl
-  if-not false x y = refl
-
-  pub if-map {κ} : {B : Type κ} (f : A → B) (b : Bool) (x y : A) → f (if b then x else y) ≡ (if b then f x else f y)
-  unfolding if_then_else_
-  if-map f true x y = refl
-  if-map f false x y = refl
-
   -- what holds in either case holds of the choice
   pub if-cases {κ} : (P : A → Type κ) (b : Bool) {x y : A} → (b ≡ true → P x) → (b ≡ false → P y) → P (if b then x else y)
   unfolding if_then_else_
   if-cases P true t f = t refl
   if-cases P false t f = f refl
-
-  -- the parts may be replaced under the test
-  pub if-parts : (b : Bool) {x y v w : A} → (b ≡ true → x ≡ v) → (b ≡ false → y ≡ w) → (if b then x else y) ≡ (if b then v else w)
-  unfolding if_then_else_
-  if-parts true t f = t refl
-  if-parts false t f = f refl
 
 pub if-le : (b c : Bool) (x y : ℕ) → (b ≡ true → (c ≡ true) × (x ≤ y)) → (if b then x else 0) ≤ (if c then y else 0)
 unfolding if_then_else_
@@ -182,13 +158,6 @@ unfolding one
 one-split true true = refl
 one-split true false = refl
 one-split false b = refl
-
-pub one-or : (a b : Bool) → one (a || b) + one (a && b) ≡ one a + one b
-unfolding one
-one-or true true = refl
-one-or true false = refl
-one-or false true = refl
-one-or false false = refl
 
 -- equality of numbers as a test
 

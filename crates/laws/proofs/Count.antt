@@ -1,17 +1,17 @@
 -- Laws of countTo.
 use Prim.Native.Nat.{ℕ, zero, suc, _+_, _≤_, _<_}
-use mathlib.Core.Bool.{Bool, true, false, not, _&&_, _||_}
-use mathlib.Core.Path.{_≡_, refl, sym, _∙_, ap, ap₂}
+use mathlib.Core.Bool.{Bool, true, false, not, _&&_}
+use mathlib.Core.Path.{_≡_, refl, _∙_, ap, ap₂}
 use mathlib.Core.Logic.{_≢_, ⊎-elim}
-use native.Mathlib.Nat.{le-step, lt-suc-self, not-suc-le-zero, le-refl, le-of-suc-le-suc, eq-or-lt-of-le, add-zero, add-suc}
+use native.Mathlib.Nat.{le-step, lt-suc-self, not-suc-le-zero, le-refl, le-of-suc-le-suc, eq-or-lt-of-le}
 use native.Mathlib.Numerals.{add-one}
 use native.Mathlib.Decide.{le-ind, decLt}
 use native.Mathlib.Omega.{arith}
-use lib.Dec.{ltb, eqb}
-use borrow.Author.Tests.{ltb-true, lt-ltb, eq-eqb, ne-eqb}
+use lib.Dec.{ltb}
+use borrow.Author.Tests.{ltb-true, lt-ltb}
 use Rattle.laws.specs.Choice.{one}
 use Rattle.laws.specs.Range.{anyTo, countTo}
-use Rattle.laws.proofs.Choice.{true-not-false, false-of, true-of, case-bool, bool-same, not-is-true, not-is-false, and-both, and-left, and-right, and-left-false, and-right-false, one-true, one-false, one-le, one-le-one, one-not, one-split, one-or}
+use Rattle.laws.proofs.Choice.{false-of, case-bool, bool-same, not-is-true, and-both, one-true, one-false, one-le, one-le-one, one-not, one-split}
 use Rattle.laws.proofs.All.{any-of, any-witness}
 
 module _ (p : ℕ → Bool) where
@@ -21,14 +21,6 @@ module _ (p : ℕ → Bool) where
   count-none (suc n) h =
       let r = count-none n (λ i l. h i (le-step l)) in
       let o = one-false (h n (lt-suc-self n)) in
-      omega arith
-
-  pub count-all : (n : ℕ) → ((i : ℕ) → i < n → p i ≡ true) → countTo p n ≡ n
-  unfolding countTo
-  count-all zero h = refl
-  count-all (suc n) h =
-      let r = count-all n (λ i l. h i (le-step l)) in
-      let o = one-true (h n (lt-suc-self n)) in
       omega arith
 
   pub count-le-bound : (n : ℕ) → countTo p n ≤ n
@@ -54,12 +46,6 @@ module _ (p : ℕ → Bool) where
   pub count-more : {m n : ℕ} → m ≤ n → countTo p m ≤ countTo p n
   unfolding countTo
   count-more {m} {n} h = le-ind (λ k. countTo p m ≤ countTo p k) (le-refl (countTo p m)) (λ k l r. omega arith) n h
-
-  -- the numbers below m, and the n from m up
-  pub count-plus : (m n : ℕ) → countTo p (m + n) ≡ countTo p m + countTo (λ i. p (m + i)) n
-  unfolding countTo
-  count-plus m zero = rw (add-zero m) (omega arith)
-  count-plus m (suc n) = rw add-suc (omega (arith, count-plus m n))
 
   pub count-zero-at : (n : ℕ) → countTo p n ≡ 0 → (i : ℕ) → i < n → p i ≡ false
   count-zero-at n z i l = false-of λ t. let o = one-true t in let m = count-more l in let s = count-suc i in omega arith
@@ -109,23 +95,8 @@ module _ (p q : ℕ → Bool) where
       (λ k. let r = count-change n i k (λ j m. h j (le-step m)) in let s = ap one (h n (lt-suc-self n) (omega arith)) in omega arith)
       (eq-or-lt-of-le (le-of-suc-le-suc l))
 
-  pub count-gain : (n i : ℕ) → i < n → ((j : ℕ) → j < n → j ≢ i → p j ≡ q j) → p i ≡ false → q i ≡ true → countTo q n ≡ suc (countTo p n)
-  count-gain n i l h f t = omega (arith, count-change n i l h, one-false f, one-true t)
-
   pub count-lose : (n i : ℕ) → i < n → ((j : ℕ) → j < n → j ≢ i → p j ≡ q j) → p i ≡ true → q i ≡ false → countTo p n ≡ suc (countTo q n)
   count-lose n i l h t f = omega (arith, count-change n i l h, one-true t, one-false f)
-
-  pub count-or : (n : ℕ) → countTo (λ i. p i || q i) n + countTo (λ i. p i && q i) n ≡ countTo p n + countTo q n
-  unfolding countTo
-  count-or zero = refl
-  count-or (suc n) = omega (arith, count-or n, one-or (p n) (q n))
-
-  -- no number passes both
-  pub count-add : (n : ℕ) → ((i : ℕ) → i < n → p i ≡ true → q i ≡ false) → countTo (λ i. p i || q i) n ≡ countTo p n + countTo q n
-  count-add n h = omega (arith, count-or n, count-none (λ i. p i && q i) n (λ i l. none i (h i l)))
-    where
-      none : (i : ℕ) → (p i ≡ true → q i ≡ false) → p i && q i ≡ false
-      none i k = case-bool (p i) (λ t. and-right-false (p i) (k t)) (and-left-false (q i))
 
   pub count-split : (n : ℕ) → countTo p n ≡ countTo (λ i. p i && q i) n + countTo (λ i. p i && not (q i)) n
   unfolding countTo
@@ -143,23 +114,6 @@ count-lt-of p q n h i l f t =
 pub count-lt-bound : (p : ℕ → Bool) (n i : ℕ) → i < n → p i ≡ false → countTo p n < n
 count-lt-bound p n i l f = omega (arith, count-not p n, count-pos-of (λ j. not (p j)) n i l (not-is-true f))
 
--- the test holds everywhere if it holds n times
-pub count-full-at : (p : ℕ → Bool) (n : ℕ) → countTo p n ≡ n → (i : ℕ) → i < n → p i ≡ true
-count-full-at p n e i l = true-of λ f. omega (arith, count-lt-bound p n i l f)
-
--- just one number equals j
-pub count-equal : (n j : ℕ) → j < n → countTo (λ i. eqb i j) n ≡ 1
-count-equal n j l =
-    omega (
-      arith,
-      count-gain (λ i. false) (λ i. eqb i j) n j l (λ i k ne. sym (ne-eqb i j ne)) refl (eq-eqb j j refl),
-      count-none (λ i. false) n (λ i k. refl),
-    )
-
-pub count-equal-le : (n j : ℕ) → countTo (λ i. eqb i j) n ≤ 1
-count-equal-le n j =
-    elim (decLt j n) [ yes l ↦ omega (arith, count-equal n j l) | no l ↦ omega (arith, count-none (λ i. eqb i j) n (λ i k. ne-eqb i j (omega arith))) ]
-
 -- of the numbers that pass, no two have as many below them
 pub count-injective : (p : ℕ → Bool) {i j : ℕ} → p i ≡ true → p j ≡ true → countTo p i ≡ countTo p j → i ≡ j
 count-injective p {i} {j} s t e =
@@ -167,21 +121,3 @@ count-injective p {i} {j} s t e =
       | yes l ↦ absurd (omega (arith, count-suc p i, count-more p l, one-true s))
       | no l ↦ elim (decLt j i) [ yes k ↦ absurd (omega (arith, count-suc p j, count-more p k, one-true t)) | no k ↦ omega arith ]
     ]
-
--- numbers that all stand among f 0, .., f (k - 1) are at most k
-pub count-image : (f : ℕ → ℕ) (k : ℕ) (p : ℕ → Bool) (n : ℕ) → ((j : ℕ) → j < n → p j ≡ true → (i : ℕ) × (i < k) × (f i ≡ j)) → countTo p n ≤ k
-count-image f zero p n h =
-    omega (arith, count-none p n (λ j l. false-of λ t. not-suc-le-zero (h j l t .1)))
-count-image f (suc k) p n h =
-    let r = count-image f k (λ j. p j && not (eqb j (f k))) n (λ j l t. other j t (h j l (and-left (p j) (not (eqb j (f k))) t))) in
-    let s = count-split p (λ j. eqb j (f k)) n in
-    let e = count-le (λ j. p j && eqb j (f k)) (λ j. eqb j (f k)) n (λ j l t. and-right (p j) (eqb j (f k)) t) in
-    let o = count-equal-le n (f k) in
-    omega arith
-  where
-    other : (j : ℕ) → p j && not (eqb j (f k)) ≡ true → (i : ℕ) × (i < suc k) × (f i ≡ j) → (i : ℕ) × (i < k) × (f i ≡ j)
-    other j t w =
-        ⊎-elim
-        (λ e. true-not-false (and-right (p j) (not (eqb j (f k))) t) (not-is-false (eq-eqb j (f k) (sym (w .2) ∙ ap f e))))
-        (λ l. (w .0, l, w .2))
-        (eq-or-lt-of-le (le-of-suc-le-suc (w .1)))

@@ -1,20 +1,17 @@
 -- Laws of neverFalling.
-use Prim.Native.Nat.{ℕ, suc, _≤_, _<_}
+use Prim.Native.Nat.{ℕ, _≤_, _<_}
 use mathlib.Core.Bool.{Bool, true}
 use mathlib.Core.Path.{_≡_, refl}
 use mathlib.Core.Logic.{inl, inr, ⊎-elim}
 use mathlib.Core.List.{List, [], _∷_, _++_}
-use native.Mathlib.Nat.{le-trans}
 use lib.Dec.{leb}
-use lib.ListN.{length, getD, drop}
+use lib.ListN.{length, getD}
 use borrow.Author.Tests.{leb-true, le-leb}
-use Rattle.laws.specs.Sequence.{keep, holds, everyIn, neverFalling, upTo, insertBefore}
+use Rattle.laws.specs.Sequence.{keep, holds, everyIn, neverFalling}
 use Rattle.laws.specs.Order.{Before}
 use Rattle.laws.proofs.Choice.{true-not-false, and-both, and-left, and-right}
 use Rattle.laws.proofs.Sequence.{holds-cases, every-at, every-from}
-use Rattle.laws.proofs.Found.{up-to-rest, up-to-next}
-use Rattle.laws.proofs.Move.{insert-split}
-use Rattle.laws.proofs.Order.{before-left, before-right, before-append-left, before-append-right, before-across, before-append-cases, before-kept, before-getD}
+use Rattle.laws.proofs.Order.{before-left, before-right, before-append-cases, before-kept, before-getD}
 
 module _ (f : ℕ → ℕ) where
   pub falling-at : (l : List ℕ) → neverFalling f l ≡ true → (x y : ℕ) → Before x y l → f x ≤ f y
@@ -51,32 +48,6 @@ module _ (f : ℕ → ℕ) where
   falling-last l y h k =
       falling-append l (y ∷ []) h (falling-single y) λ x z hx hz.
       ⊎-elim (λ e. rw e (k x hx)) (λ n. true-not-false n refl) (holds-cases z y [] hz)
-
-  -- x put before y, where all before y is no greater
-  pub falling-insert : (x y : ℕ) (l : List ℕ) → holds y l ≡ true → neverFalling f l ≡ true → ((z : ℕ) → holds z (upTo y l) ≡ true → f z ≤ f x) → f x ≤ f y → neverFalling f (insertBefore x y l) ≡ true
-  unfolding Before
-  falling-insert x y l hy h ahead le =
-      rw (insert-split x y l hy)
-      (falling-append u (x ∷ r)
-      (falling-from u λ a b c. all a b (before-append-left a b u r c))
-      (falling-from (x ∷ r) λ a b c. ⊎-elim (λ q. rw (q .0) (least b (q .1))) (λ d. all a b (before-append-right a b u r d)) c)
-      (λ a b ha hb. ⊎-elim (λ e. rw e (ahead a ha)) (λ k. all a b (before-across a b u r ha k)) (holds-cases b x r hb)))
-    where
-      u : List ℕ
-      u = upTo y l
-
-      r : List ℕ
-      r = drop (length u) l
-
-      all : (a b : ℕ) → Before a b (u ++ r) → f a ≤ f b
-      all = falling-at (u ++ r) (rw (up-to-rest y l) h)
-
-      least : (b : ℕ) → holds b r ≡ true → f x ≤ f b
-      least b k =
-          ⊎-elim
-          (λ e. rw e le)
-          (λ m. le-trans le (all y b (before-append-right y b u r (rw (up-to-next y l hy) (inl (refl, m))))))
-          (holds-cases b y (drop (suc (length u)) l) (rw (up-to-next y l hy) at k))
 
 pub falling-same : (f g : ℕ → ℕ) (l : List ℕ) → ((x : ℕ) → holds x l ≡ true → f x ≡ g x) → neverFalling f l ≡ true → neverFalling g l ≡ true
 falling-same f g l e h =

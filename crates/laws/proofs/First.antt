@@ -76,14 +76,6 @@ module _ (p : ℕ → Bool) where
         | no m ↦ omega arith
       ]
 
-  pub first-step : (i : ℕ) → firstTo p (i + 1) ≡ (if ltb (firstTo p i) i then firstTo p i else (if p i then i else suc i))
-  unfolding firstTo
-  first-step i = rw add-one
-
-  -- a larger bound finds the same
-  pub first-more : {m n : ℕ} → m ≤ n → firstTo p m < m → firstTo p n ≡ firstTo p m
-  first-more {m} {n} h l = first-unique n (firstTo p m) (omega arith) (first-holds m l) (first-before m)
-
   -- one is found if there is one
   pub first-any : (n : ℕ) → ltb (firstTo p n) n ≡ anyTo p n
   first-any n =
@@ -107,10 +99,6 @@ module _ (p : ℕ → Bool) where
 
   pub length-chosen-le : (n : ℕ) → length (chosenTo p n) ≤ n
   length-chosen-le n = omega (arith, length-chosen n, count-le-bound p n)
-
-  pub chosen-step : (i : ℕ) → chosenTo p (i + 1) ≡ (if p i then chosenTo p i ++ (i ∷ []) else chosenTo p i)
-  unfolding chosenTo
-  chosen-step i = rw add-one
 
   pub chosen-hit : (i : ℕ) → p i ≡ true → chosenTo p (i + 1) ≡ chosenTo p i ++ (i ∷ [])
   chosen-hit i t = rw add-one (chosen-true i t)

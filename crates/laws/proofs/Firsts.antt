@@ -4,18 +4,16 @@ use mathlib.Core.Bool.{true, false, _||_, or-false}
 use mathlib.Core.Path.{_≡_, refl, sym, _∙_, ap₂}
 use mathlib.Core.List.{List, [], _∷_, _++_}
 use native.Mathlib.Omega.{arith}
-use native.Mathlib.Numerals.{add-one}
 use native.Mathlib.Decide.{ℕ-discrete}
 use lib.Dec.{eqb}
-use lib.ListN.{length, getD, take, length-append}
+use lib.ListN.{length, getD}
 use borrow.Author.Tests.{eqb-true, ne-eqb}
 use Rattle.laws.specs.Choice.{if_then_else_}
 use Rattle.laws.specs.Range.{anyTo}
 use Rattle.laws.specs.Sequence.{holds, timesIn, firstsTo}
-use Rattle.laws.proofs.Choice.{case-bool, if-true, if-false, if-cases, or-right, one-le, one-false}
+use Rattle.laws.proofs.Choice.{case-bool, if-true, if-false, or-right, one-le, one-false}
 use Rattle.laws.proofs.All.{any-witness}
 use Rattle.laws.proofs.Sequence.{holds-append, times-append, times-single, times-zero}
-use Rattle.laws.proofs.Index.{holds-take}
 use Rattle.laws.proofs.Once.{distinct-length}
 
 module _ (l : List ℕ) where
@@ -26,10 +24,6 @@ module _ (l : List ℕ) where
   pub firsts-new : (n : ℕ) → holds (getD l n 0) (firstsTo l n) ≡ false → firstsTo l (suc n) ≡ firstsTo l n ++ (getD l n 0 ∷ [])
   unfolding firstsTo if_then_else_
   firsts-new n f = rw f
-
-  pub firsts-step : (i : ℕ) → firstsTo l (i + 1) ≡ (if holds (getD l i 0) (firstsTo l i) then firstsTo l i else firstsTo l i ++ (getD l i 0 ∷ []))
-  unfolding firstsTo
-  firsts-step i = rw add-one
 
   pub firsts-once : (n x : ℕ) → timesIn x (firstsTo l n) ≤ 1
   unfolding firstsTo timesIn
@@ -60,20 +54,8 @@ module _ (l : List ℕ) where
       (case-bool (eqb x e) (λ q. rw (eqb-true x e q) t ∙ sym (or-right (anyTo (λ i. eqb x (getD l i 0)) n) q)) (λ g. rw (g, or-false) r)))
       (λ f. rw (if-false s (s ++ (e ∷ [])) f) (holds-append x s (e ∷ []) ∙ ap₂ _||_ r (or-false (eqb x e))))
 
-  pub firsts-take : (n x : ℕ) → n ≤ length l → holds x (firstsTo l n) ≡ holds x (take n l)
-  firsts-take n x h = firsts-holds n x ∙ sym (holds-take x l 0 n h)
-
   pub firsts-length : (n b : ℕ) → ((i : ℕ) → i < n → getD l i 0 < b) → length (firstsTo l n) ≤ b
   firsts-length n b h =
       distinct-length b (firstsTo l n) (firsts-once n) λ x k.
       let w = any-witness (λ i. eqb x (getD l i 0)) n (sym (firsts-holds n x) ∙ k) in
       rw (eqb-true x (getD l (w .0) 0) (w .2)) (h (w .0) (w .1))
-
-  pub firsts-length-le : (n : ℕ) → length (firstsTo l n) ≤ n
-  unfolding firstsTo
-  firsts-length-le zero = omega arith
-  firsts-length-le (suc n) =
-      let s = firstsTo l n in
-      if-cases (λ m. length m ≤ suc n) (holds (getD l n 0) s) {x = s} {y = s ++ (getD l n 0 ∷ [])}
-      (λ t. omega (arith, firsts-length-le n))
-      (λ f. omega (arith, firsts-length-le n, length-append s (getD l n 0 ∷ [])))

@@ -1,18 +1,18 @@
 -- Laws of firstOf and upTo.
 use Prim.Native.Nat.{ℕ, zero, suc, _<_}
-use mathlib.Core.Bool.{Bool, true, false, not}
-use mathlib.Core.Path.{_≡_, refl, sym, _∙_, ap, subst}
+use mathlib.Core.Bool.{Bool, true, not}
+use mathlib.Core.Path.{_≡_, refl, _∙_, ap, subst}
 use mathlib.Core.Logic.{_⊎_, inl, inr, ⊎-elim, _≢_}
 use mathlib.Core.List.{List, [], _∷_, _++_}
 use native.Mathlib.Nat.{not-suc-le-zero}
 use native.Mathlib.Omega.{arith}
 use lib.Dec.{eqb}
-use lib.ListN.{length, getD, take, drop, length-drop}
-use borrow.Author.Tests.{eqb-true, eqb-false, ne-eqb, not-true}
+use lib.ListN.{length, getD, take, drop}
+use borrow.Author.Tests.{ne-eqb, not-true}
 use Rattle.laws.specs.Choice.{if_then_else_}
 use Rattle.laws.specs.Sequence.{holds, firstOf, upTo, everyIn}
-use Rattle.laws.proofs.Choice.{true-not-false, case-bool, not-is-true, and-both, or-neither, if-true, if-false, eqb-self, eqb-sym}
-use Rattle.laws.proofs.Sequence.{holds-head, holds-tail, holds-rest, holds-append-left, lacks-head, lacks-tail, every-at}
+use Rattle.laws.proofs.Choice.{true-not-false, case-bool, not-is-true, and-both, if-true, if-false, eqb-self}
+use Rattle.laws.proofs.Sequence.{holds-head, holds-tail, holds-append-left, every-at}
 
 -- what firstOf finds: an element that passes, or nothing passes
 pub first-of-cases : (p : ℕ → Bool) (l : List ℕ) (other : ℕ)
@@ -74,28 +74,6 @@ module _ (y : ℕ) where
 
   pub up-to-in : (x : ℕ) (l : List ℕ) → holds x (upTo y l) ≡ true → holds x l ≡ true
   up-to-in x l h = subst (λ m. holds x m ≡ true) (up-to-rest l) (holds-append-left x (upTo y l) (drop (length (upTo y l)) l) h)
-
-  pub up-to-lacks : (l : List ℕ) → holds y (upTo y l) ≡ false
-  unfolding upTo holds if_then_else_
-  up-to-lacks [] = refl
-  up-to-lacks (x ∷ l) = case-bool (eqb x y) (λ t. rw t) (λ f. rw f (or-neither (eqb-sym y x ∙ f) (up-to-lacks l)))
-
-  pub up-to-none : (l : List ℕ) → holds y l ≡ false → upTo y l ≡ l
-  unfolding upTo
-  up-to-none [] h = refl
-  up-to-none (x ∷ l) h = rw (if-false [] (x ∷ upTo y l) (ne-eqb x y λ e. lacks-head y x l h (sym e)), up-to-none l (lacks-tail y x l h))
-
-  -- y stands directly behind
-  pub up-to-next : (l : List ℕ) → holds y l ≡ true → drop (length (upTo y l)) l ≡ y ∷ drop (suc (length (upTo y l))) l
-  unfolding upTo holds if_then_else_
-  up-to-next [] h = true-not-false h refl
-  up-to-next (x ∷ l) h =
-      case-bool (eqb x y)
-      (λ t. rw (t, eqb-true x y t))
-      (λ f. rw f (up-to-next l (holds-rest y x l (λ e. eqb-false x y f (sym e)) h)))
-
-  pub up-to-length : (l : List ℕ) → holds y l ≡ true → length (upTo y l) < length l
-  up-to-length l h = omega (arith, ap length (up-to-next l h), length-drop (length (upTo y l)) l, length-drop (suc (length (upTo y l))) l)
 
 -- what stands before the first y, where y first stands at i
 pub up-to-at : (l : List ℕ) (i d : ℕ) → i < length l → ((k : ℕ) → k < i → getD l k d ≢ getD l i d) → upTo (getD l i d) l ≡ take i l

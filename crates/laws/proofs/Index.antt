@@ -1,43 +1,28 @@
 -- What is said of a list, said of its places: for a loop that reads the list by index.
 use Prim.Native.Nat.{ℕ, zero, suc, _+_, _≤_, _<_}
-use mathlib.Core.Bool.{Bool, true, false, not, _&&_, _||_, and-true, or-false}
-use mathlib.Core.Path.{_≡_, refl, sym, _∙_, ap, ap₂}
+use mathlib.Core.Bool.{Bool, true, false, not, _||_, or-false}
+use mathlib.Core.Path.{_≡_, refl, _∙_, ap, ap₂}
 use mathlib.Core.List.{List, [], _∷_, _++_, append-nil}
-use native.Mathlib.Nat.{le-of-suc-le, le-of-lt, le-refl, add-zero}
+use native.Mathlib.Nat.{le-of-suc-le, le-of-lt, add-zero}
 use native.Mathlib.Omega.{arith}
 use lib.Dec.{eqb}
-use lib.ListN.{length, getD, take, drop, set}
-use lib.Seq.{take-suc, take-length, split-at, getD-take, length-take-le, getD-set-same, getD-set-other}
+use lib.ListN.{length, getD, take, drop}
+use lib.Seq.{take-suc, split-at, getD-take, length-take-le}
 use Rattle.laws.specs.Choice.{if_then_else_, one}
-use Rattle.laws.specs.Range.{allTo, anyTo, countTo, tableTo}
-use Rattle.laws.specs.Sequence.{keep, holds, timesIn, everyIn, countIn, firstOf}
+use Rattle.laws.specs.Range.{anyTo, countTo, tableTo}
+use Rattle.laws.specs.Sequence.{keep, holds, timesIn, countIn, firstOf}
 use Rattle.laws.proofs.Choice.{case-bool, not-is-true, if-true}
-use Rattle.laws.proofs.All.{all-change}
-use Rattle.laws.proofs.Count.{count-change}
-use Rattle.laws.proofs.Sequence.{holds-append, times-append, times-single, times-count, every-append, every-from-getD, count-in-append}
+use Rattle.laws.proofs.Sequence.{holds-append, times-append, times-single, times-count, every-from-getD, count-in-append}
 use Rattle.laws.proofs.Keep.{keep-append}
 use Rattle.laws.proofs.Found.{first-of-append, first-of-none}
 
 module _ (p : ℕ → Bool) (l : List ℕ) (d : ℕ) where
-  pub every-take : (n : ℕ) → n ≤ length l → everyIn p (take n l) ≡ allTo (λ i. p (getD l i d)) n
-  unfolding everyIn allTo
-  every-take zero h = refl
-  every-take (suc n) h =
-      let e = getD l n d in
-      rw (take-suc l n d) (every-append p (take n l) (e ∷ []) ∙ ap₂ _&&_ (every-take n (le-of-suc-le h)) (and-true (p e)))
-
-  pub every-all : everyIn p l ≡ allTo (λ i. p (getD l i d)) (length l)
-  every-all = sym (ap (everyIn p) (take-length l)) ∙ every-take (length l) (le-refl (length l))
-
   pub count-in-take : (n : ℕ) → n ≤ length l → countIn p (take n l) ≡ countTo (λ i. p (getD l i d)) n
   unfolding countIn countTo
   count-in-take zero h = refl
   count-in-take (suc n) h =
       let e = getD l n d in
       rw (take-suc l n d) (count-in-append p (take n l) (e ∷ []) ∙ ap₂ _+_ (count-in-take n (le-of-suc-le h)) (add-zero (one (p e))))
-
-  pub count-in-count : countIn p l ≡ countTo (λ i. p (getD l i d)) (length l)
-  count-in-count = sym (ap (countIn p) (take-length l)) ∙ count-in-take (length l) (le-refl (length l))
 
   -- keep, one place further
   pub keep-take : (i : ℕ) → i < length l → keep p (take (suc i) l) ≡ (if p (getD l i d) then keep p (take i l) ++ (getD l i d ∷ []) else keep p (take i l))
@@ -72,14 +57,8 @@ module _ (x : ℕ) (l : List ℕ) (d : ℕ) where
       let e = getD l n d in
       rw (take-suc l n d) (holds-append x (take n l) (e ∷ []) ∙ ap₂ _||_ (holds-take n (le-of-suc-le h)) (or-false (eqb x e)))
 
-  pub holds-any : holds x l ≡ anyTo (λ i. eqb x (getD l i d)) (length l)
-  holds-any = sym (ap (holds x) (take-length l)) ∙ holds-take (length l) (le-refl (length l))
-
   pub times-take : (n : ℕ) → n ≤ length l → timesIn x (take n l) ≡ countTo (λ i. eqb x (getD l i d)) n
   times-take n h = times-count x (take n l) ∙ count-in-take (eqb x) l d n h
-
-  pub times-count-to : timesIn x l ≡ countTo (λ i. eqb x (getD l i d)) (length l)
-  times-count-to = times-count x l ∙ count-in-count (eqb x) l d
 
 -- a table as a list
 
@@ -95,13 +74,3 @@ module _ (f : ℕ → ℕ) (x : ℕ) where
   times-table (suc n) = times-append x (tableTo f n) (f n ∷ []) ∙ ap₂ _+_ (times-table n) (times-single x (f n))
 
 -- an array with one element changed
-
-module _ {ℓ} {A : Type ℓ} (p : ℕ → A → Bool) (l : List A) (n i : ℕ) (v d : A) (inside : i < length l) where
-  pub count-set : i < n → countTo (λ j. p j (getD (set l i v) j d)) n + one (p i (getD l i d)) ≡ countTo (λ j. p j (getD l j d)) n + one (p i v)
-  count-set h =
-      rw (getD-set-same l i v d inside) at
-      (count-change (λ j. p j (getD l j d)) (λ j. p j (getD (set l i v) j d)) n i h λ j k ne. rw (getD-set-other l i j v d ne))
-
-  pub all-set : p i v ≡ true → allTo (λ j. p j (getD l j d)) n ≡ true → allTo (λ j. p j (getD (set l i v) j d)) n ≡ true
-  all-set t =
-      all-change (λ j. p j (getD l j d)) (λ j. p j (getD (set l i v) j d)) n i (λ j k ne. rw (getD-set-other l i j v d ne)) (rw (getD-set-same l i v d inside) t)

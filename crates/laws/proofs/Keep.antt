@@ -7,11 +7,11 @@ use mathlib.Core.List.{List, [], _∷_, _++_}
 use native.Mathlib.Omega.{arith}
 use lib.Dec.{eqb, ltb}
 use lib.ListN.{length}
-use borrow.Author.Tests.{ne-eqb, not-true}
+use borrow.Author.Tests.{ne-eqb}
 use Rattle.laws.specs.Choice.{if_then_else_, one}
 use Rattle.laws.specs.Sequence.{keep, holds, timesIn, everyIn, countIn}
-use Rattle.laws.proofs.Choice.{true-not-false, case-bool, false-of, not-is-true, not-is-false, and-both, and-left, and-right, one-false, eqb-self, eqb-sym}
-use Rattle.laws.proofs.Sequence.{holds-head, holds-tail, holds-times, lacks-of-times, times-zero, times-none, every-at, every-from, count-in-le}
+use Rattle.laws.proofs.Choice.{true-not-false, case-bool, not-is-true, not-is-false, and-both, and-left, and-right, one-false, eqb-self, eqb-sym}
+use Rattle.laws.proofs.Sequence.{holds-head, holds-tail, holds-times, lacks-of-times, every-at, every-from, count-in-le}
 
 module _ (p : ℕ → Bool) where
   pub keep-true : (x : ℕ) (l : List ℕ) → p x ≡ true → keep p (x ∷ l) ≡ x ∷ keep p l
@@ -80,24 +80,11 @@ module _ (p : ℕ → Bool) where
   keep-all [] h = refl
   keep-all (x ∷ l) h = rw (and-left (p x) (everyIn p l) h, keep-all l (and-right (p x) (everyIn p l) h))
 
-  pub keep-none : (l : List ℕ) → everyIn (λ x. not (p x)) l ≡ true → keep p l ≡ []
-  keep-none l h =
-      times-none (keep p l) λ x. times-zero x (keep p l) (false-of λ k.
-      true-not-false (keep-passes x l k) (not-true (p x) (every-at (λ x. not (p x)) l h x (keep-in x l k))))
-
 module _ (p q : ℕ → Bool) where
   pub keep-same : (l : List ℕ) → ((x : ℕ) → holds x l ≡ true → p x ≡ q x) → keep p l ≡ keep q l
   unfolding keep
   keep-same [] h = refl
   keep-same (x ∷ l) h = rw (h x (holds-head x l), keep-same l (λ z k. h z (holds-tail z x l k)))
-
-  pub keep-keep : (l : List ℕ) → keep p (keep q l) ≡ keep (λ x. q x && p x) l
-  unfolding keep if_then_else_
-  keep-keep [] = refl
-  keep-keep (x ∷ l) = case-bool (q x) (λ t. rw (t, keep-keep l)) (λ f. rw (f, keep-keep l))
-
-  pub count-in-keep : (l : List ℕ) → countIn p (keep q l) ≡ countIn (λ x. q x && p x) l
-  count-in-keep l = sym (length-keep p (keep q l)) ∙ ap length (keep-keep l) ∙ length-keep (λ x. q x && p x) l
 
 -- x taken out
 
@@ -116,9 +103,6 @@ module _ (x : ℕ) where
 
   pub remove-holds : (z : ℕ) (l : List ℕ) → z ≢ x → holds z l ≡ true → holds z (keep (λ z. not (eqb z x)) l) ≡ true
   remove-holds z l ne h = holds-keep-in (other x) z l h (not-is-true (ne-eqb z x ne))
-
-  pub remove-missing : (l : List ℕ) → holds x l ≡ false → keep (λ z. not (eqb z x)) l ≡ l
-  remove-missing l h = keep-all (other x) l (every-from (other x) l λ z k. not-is-true (ne-eqb z x λ e. true-not-false (rw (← e) k) h))
 
   pub length-remove : (l : List ℕ) → length (keep (λ z. not (eqb z x)) l) + timesIn x l ≡ length l
   unfolding keep timesIn if_then_else_ one

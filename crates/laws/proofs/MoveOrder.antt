@@ -1,39 +1,24 @@
 -- The order in a list after insertBefore and moveBefore.
-use Prim.Native.Nat.{ℕ, _≤_}
+use Prim.Native.Nat.{ℕ}
 use mathlib.Core.Bool.{true, false, not}
 use mathlib.Core.Path.{_≡_, refl, sym, _∙_}
 use mathlib.Core.Logic.{_⊎_, inl, inr, _≢_, ⊎-elim}
 use mathlib.Core.List.{List, [], _∷_}
-use native.Mathlib.Nat.{le-trans}
 use native.Mathlib.Decide.{ℕ-discrete}
 use lib.Dec.{eqb}
 use borrow.Author.Tests.{ne-eqb}
-use Rattle.laws.specs.Sequence.{keep, holds, timesIn, insertBefore, moveBefore}
+use Rattle.laws.specs.Sequence.{keep, holds, insertBefore, moveBefore}
 use Rattle.laws.specs.Order.{Before}
-use Rattle.laws.proofs.Choice.{true-not-false, true-of, case-bool, not-is-true, or-left, or-right, eqb-self}
-use Rattle.laws.proofs.Sequence.{holds-tail, holds-cases, holds-rest, lacks-head, lacks-tail, times-head-once, times-tail-le}
-use Rattle.laws.proofs.Keep.{times-keep-le, remove-holds, remove-lacks}
+use Rattle.laws.proofs.Choice.{true-not-false, true-of, case-bool, not-is-true}
+use Rattle.laws.proofs.Sequence.{holds-tail, holds-cases, holds-rest, lacks-head, lacks-tail}
+use Rattle.laws.proofs.Keep.{remove-holds, remove-lacks}
 use Rattle.laws.proofs.Move.{insert-here, insert-later, insert-none, holds-insert}
 use Rattle.laws.proofs.Order.{before-left, before-right, before-keep, before-kept}
 
 module _ (x y : ℕ) where
-  pub holds-insert-more : (z : ℕ) (l : List ℕ) → holds z l ≡ true → holds z (insertBefore x y l) ≡ true
-  holds-insert-more z l h = case-bool (holds y l) (λ t. holds-insert x y z l t ∙ or-right (eqb z x) h) (λ f. rw (insert-none x y l f) h)
-
-  pub holds-insert-self : (l : List ℕ) → holds y l ≡ true → holds x (insertBefore x y l) ≡ true
-  holds-insert-self l h = holds-insert x y x l h ∙ or-left (holds x l) (eqb-self x)
-
   pub holds-insert-other : (z : ℕ) (l : List ℕ) → z ≢ x → holds z (insertBefore x y l) ≡ true → holds z l ≡ true
   holds-insert-other z l ne h =
       case-bool (holds y l) (λ t. rw (ne-eqb z x ne) at (sym (holds-insert x y z l t) ∙ h)) (λ f. rw (insert-none x y l f) at h)
-
-  pub before-insert : (a b : ℕ) (l : List ℕ) → Before a b l → Before a b (insertBefore x y l)
-  unfolding Before
-  before-insert a b [] c = absurd c
-  before-insert a b (z ∷ l) c = elim (ℕ-discrete z y) [
-    | yes e ↦ rw (insert-here x y l e) (inr c)
-    | no ne ↦ rw (insert-later x y z l ne) (⊎-elim (λ r. inl (r .0, holds-insert-more b l (r .1))) (λ d. inr (before-insert a b l d)) c)
-  ]
 
   pub before-insert-other : (a b : ℕ) (l : List ℕ) → a ≢ x → b ≢ x → Before a b (insertBefore x y l) → Before a b l
   unfolding Before insertBefore
@@ -80,17 +65,6 @@ module _ (x y : ℕ) where
         (rw (insert-later x y z l ne) at c)
   ]
 
-  -- what stands before y stands before x
-  pub before-insert-ahead : (a : ℕ) (l : List ℕ) → timesIn y l ≤ 1 → Before a y l → Before a x (insertBefore x y l)
-  unfolding Before
-  before-insert-ahead a [] o c = absurd c
-  before-insert-ahead a (z ∷ l) o c = elim (ℕ-discrete z y) [
-    | yes e ↦ absurd (times-head-once y l (rw e at o) (⊎-elim (λ r. r .1) (before-right a y l) c))
-    | no ne ↦
-        rw (insert-later x y z l ne)
-        (⊎-elim (λ r. inl (r .0, holds-insert-self l (r .1))) (λ d. inr (before-insert-ahead a l (times-tail-le y z l o) d)) c)
-  ]
-
   pub before-insert-ahead-from : (a : ℕ) (l : List ℕ) → a ≢ x → holds x l ≡ false → Before a x (insertBefore x y l) → Before a y l
   unfolding Before insertBefore
   before-insert-ahead-from a [] na f c = absurd c
@@ -107,12 +81,6 @@ module _ (x y : ℕ) where
       target h = true-of λ g. true-not-false (rw (insert-none x y l g) at h) (lacks-tail x z l f)
 
 module _ (x y : ℕ) (l : List ℕ) where
-  pub before-move : (a b : ℕ) → a ≢ x → b ≢ x → Before a b l → Before a b (moveBefore x y l)
-  unfolding moveBefore
-  before-move a b na nb c =
-      before-insert x y a b (keep (λ z. not (eqb z x)) l)
-      (before-keep a b (λ z. not (eqb z x)) l (not-is-true (ne-eqb a x na)) (not-is-true (ne-eqb b x nb)) c)
-
   pub before-move-from : (a b : ℕ) → a ≢ x → b ≢ x → Before a b (moveBefore x y l) → Before a b l
   unfolding moveBefore
   before-move-from a b na nb c =
@@ -134,12 +102,6 @@ module _ (x y : ℕ) (l : List ℕ) where
       ⊎-elim inl
       (λ d. inr (before-kept y b (λ z. not (eqb z x)) l d))
       (before-insert-after-cases x y b (keep (λ z. not (eqb z x)) l) (remove-lacks x l) c)
-
-  pub before-move-ahead : (a : ℕ) → a ≢ x → y ≢ x → timesIn y l ≤ 1 → Before a y l → Before a x (moveBefore x y l)
-  unfolding moveBefore
-  before-move-ahead a na ny o c =
-      before-insert-ahead x y a (keep (λ z. not (eqb z x)) l) (le-trans (times-keep-le (λ z. not (eqb z x)) y l) o)
-      (before-keep a y (λ z. not (eqb z x)) l (not-is-true (ne-eqb a x na)) (not-is-true (ne-eqb y x ny)) c)
 
   pub before-move-ahead-from : (a : ℕ) → a ≢ x → Before a x (moveBefore x y l) → Before a y l
   unfolding moveBefore

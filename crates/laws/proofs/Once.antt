@@ -1,24 +1,23 @@
 -- Laws of holdsEachOnce.
 use Prim.Native.Nat.{ℕ, zero, suc, _+_, _≤_, _<_}
-use mathlib.Core.Bool.{Bool, true, false, not, _&&_, and-true}
+use mathlib.Core.Bool.{Bool, true, false, not, _&&_}
 use mathlib.Core.Path.{_≡_, refl, sym, _∙_, ap}
 use mathlib.Core.Logic.{_≢_}
 use mathlib.Core.List.{List, [], _∷_, _++_}
-use native.Mathlib.Nat.{le-step, le-trans, lt-suc-self, not-suc-le-zero, lt-irrefl}
+use native.Mathlib.Nat.{le-step, le-trans, lt-suc-self, not-suc-le-zero}
 use native.Mathlib.Omega.{arith}
 use native.Mathlib.Decide.{ℕ-discrete}
 use lib.Dec.{eqb, ltb}
 use lib.ListN.{length}
 use borrow.Author.Tests.{eqb-true, eq-eqb, ne-eqb, ltb-true, lt-ltb}
 use Rattle.laws.specs.Choice.{one}
-use Rattle.laws.specs.Range.{allTo, countTo, chosenTo}
-use Rattle.laws.specs.Sequence.{keep, holds, timesIn, everyIn, countIn, insertBefore, moveBefore, holdsEachOnce}
-use Rattle.laws.proofs.Choice.{true-not-false, false-of, case-bool, bool-same, not-is-true, not-is-false, and-both, and-left, and-right, and-right-false, one-true, one-false, one-le, one-positive, eqb-self}
-use Rattle.laws.proofs.All.{below-suc, all-at, all-from}
-use Rattle.laws.proofs.First.{length-chosen, chosen-true, chosen-false, chosen-below, chosen-passes}
-use Rattle.laws.proofs.Sequence.{holds-of-times, holds-place, times-append, times-single, times-positive, times-zero, times-none, every-at, every-from}
-use Rattle.laws.proofs.Keep.{keep-in, keep-passes, times-keep-true, times-keep-le, length-keep, remove-lacks, remove-times-other, length-remove}
-use Rattle.laws.proofs.Move.{times-insert, times-move}
+use Rattle.laws.specs.Range.{allTo, countTo}
+use Rattle.laws.specs.Sequence.{keep, holds, timesIn, everyIn, moveBefore, holdsEachOnce}
+use Rattle.laws.proofs.Choice.{true-not-false, false-of, case-bool, bool-same, and-both, and-left, and-right, one-true, one-false, one-le, one-positive, eqb-self}
+use Rattle.laws.proofs.All.{all-at, all-from}
+use Rattle.laws.proofs.Sequence.{holds-of-times, times-append, times-single, times-positive, times-zero, times-none, every-at, every-from}
+use Rattle.laws.proofs.Keep.{keep-in, keep-passes, times-keep-true, times-keep-le, remove-lacks, remove-times-other, length-remove}
+use Rattle.laws.proofs.Move.{times-move}
 
 pub record EachOnce (p : ℕ → Bool) (n : ℕ) (l : List ℕ) : Type 0 where
   pub below : (x : ℕ) → holds x l ≡ true → x < n
@@ -120,20 +119,6 @@ module _ {p : ℕ → Bool} (q : ℕ → Bool) {n : ℕ} {l : List ℕ} where
   once-append x r k f t same =
       once-more (l ++ (x ∷ [])) x r k f t same λ z. omega (arith, times-append z l (x ∷ []), times-single z x)
 
-  pub once-insert : (x y : ℕ) → EachOnce p n l → x < n → p x ≡ false → q x ≡ true → ((z : ℕ) → z < n → z ≢ x → p z ≡ q z) → holds y l ≡ true → EachOnce q n (insertBefore x y l)
-  once-insert x y r k f t same hy = once-more (insertBefore x y l) x r k f t same λ z. times-insert x y z l hy
-
--- x taken out, where the test changes at x
-pub once-remove : {p : ℕ → Bool} (q : ℕ → Bool) {n : ℕ} {l : List ℕ} (x : ℕ) → EachOnce p n l → q x ≡ false → ((z : ℕ) → z < n → z ≢ x → p z ≡ q z)
-    → EachOnce q n (keep (λ z. not (eqb z x)) l)
-once-remove {p} q {n} x r f same = once-same q (once-keep (λ z. not (eqb z x)) r) at-place
-  where
-    at-place : (z : ℕ) → z < n → p z && not (eqb z x) ≡ q z
-    at-place z k = elim (ℕ-discrete z x) [
-      | yes e ↦ rw e (and-right-false (p x) (not-is-false (eqb-self x)) ∙ sym f)
-      | no ne ↦ ap (λ b. p z && b) (not-is-true (ne-eqb z x ne)) ∙ and-true (p z) ∙ same z k ne
-    ]
-
 pub once-none : (p : ℕ → Bool) (n : ℕ) → ((x : ℕ) → x < n → p x ≡ false) → EachOnce p n []
 unfolding holds
 once-none p n h =
@@ -167,10 +152,6 @@ once-length p (suc n) l r =
           once = λ x k t. remove-times-other n x l (omega arith) ∙ r .once x (le-step k) t;
         }
 
--- how many of its elements pass another test
-pub once-count : (p q : ℕ → Bool) (n : ℕ) (l : List ℕ) → EachOnce p n l → countIn q l ≡ countTo (λ x. p x && q x) n
-once-count p q n l r = sym (length-keep q l) ∙ once-length (λ x. p x && q x) n (keep q l) (once-keep q r)
-
 -- a list of different numbers below b
 pub distinct-length : (b : ℕ) (l : List ℕ) → ((x : ℕ) → timesIn x l ≤ 1) → ((x : ℕ) → holds x l ≡ true → x < b) → length l ≤ b
 distinct-length zero l h k = rw (times-none l (λ x. times-zero x l (false-of λ t. not-suc-le-zero (k x t)))) (omega arith)
@@ -181,48 +162,6 @@ distinct-length (suc b) l h k =
       length-remove b l,
       h b,
     )
-
--- the chosen numbers are such a list
-
-chosen-in-below : (p : ℕ → Bool) (n x : ℕ) → holds x (chosenTo p n) ≡ true → x < n
-chosen-in-below p n x h =
-    let w = holds-place x (chosenTo p n) 0 h in
-    rw (← w .2) (chosen-below p 0 n (w .0) (rw length-chosen at (w .1)))
-
-chosen-in-passes : (p : ℕ → Bool) (n x : ℕ) → holds x (chosenTo p n) ≡ true → p x ≡ true
-chosen-in-passes p n x h =
-    let w = holds-place x (chosenTo p n) 0 h in
-    rw (← w .2) (chosen-passes p 0 n (w .0) (rw length-chosen at (w .1)))
-
-chosen-once : (p : ℕ → Bool) (n x : ℕ) → x < n → p x ≡ true → timesIn x (chosenTo p n) ≡ 1
-chosen-once p zero x k t = absurd (not-suc-le-zero k)
-chosen-once p (suc n) x k t =
-    below-suc (λ x. p x ≡ true → timesIn x (chosenTo p (suc n)) ≡ 1) n
-    (λ x k t.
-    case-bool (p n)
-    (λ s.
-    rw (chosen-true p n s)
-    (omega (
-      arith,
-      times-append x (chosenTo p n) (n ∷ []),
-      times-single x n,
-      one-false (ne-eqb x n (omega arith)),
-      chosen-once p n x k t,
-    )))
-    (λ s. rw (chosen-false p n s) (chosen-once p n x k t)))
-    (λ t.
-    rw (chosen-true p n t)
-    (omega (
-      arith,
-      times-append n (chosenTo p n) (n ∷ []),
-      times-single n n,
-      one-true (eqb-self n),
-      times-zero n (chosenTo p n) (false-of λ h. lt-irrefl n (chosen-in-below p n n h)),
-    )))
-    x k t
-
-pub once-chosen : (p : ℕ → Bool) (n : ℕ) → EachOnce p n (chosenTo p n)
-once-chosen p n = record { below = chosen-in-below p n; passes = chosen-in-passes p n; once = chosen-once p n }
 
 -- of two tests that agree
 pub each-once-same : (p q : ℕ → Bool) (n : ℕ) (l : List ℕ) → ((x : ℕ) → x < n → p x ≡ q x) → holdsEachOnce p n l ≡ holdsEachOnce q n l

@@ -1,18 +1,17 @@
 -- Laws of onChain and near: a chain, and the chain of those on it that pass a test.
 use Prim.Native.Nat.{ℕ, zero, suc, _≤_, _<_}
 use mathlib.Core.Bool.{Bool, true, false, _&&_, _||_}
-use mathlib.Core.Path.{_≡_, refl, sym, _∙_, ap, ap₂}
-use mathlib.Core.Logic.{_⊎_, inl, inr, ⊎-elim, _≢_}
+use mathlib.Core.Path.{_≡_, refl, sym, _∙_, ap}
+use mathlib.Core.Logic.{_⊎_, ⊎-elim, _≢_}
 use native.Mathlib.Nat.{not-suc-le-zero, le-of-suc-le-suc, le-step, le-refl, lt-trans, lt-irrefl, le-trans}
-use native.Mathlib.Omega.{arith}
 use native.Mathlib.Decide.{ℕ-discrete}
 use lib.Dec.{eqb}
 use borrow.Author.Tests.{eqb-true, eq-eqb, ne-eqb}
 use Rattle.laws.specs.Choice.{if_then_else_}
 use Rattle.laws.specs.Chain.{alongChain, endsIn, firstAlong}
 use Rattle.laws.specs.Onto.{onChain, near}
-use Rattle.laws.proofs.Choice.{true-not-false, false-of, case-bool, if-true, if-false, or-cases, and-both, and-left-false, and-right-false}
-use Rattle.laws.proofs.Chain.{link-cases, ends-zero, ends-more, along-zero, first-along-zero, first-along-here, first-along-next, first-along-enough, first-along-ok}
+use Rattle.laws.proofs.Choice.{true-not-false, false-of, case-bool, or-cases, and-both, and-left-false, and-right-false}
+use Rattle.laws.proofs.Chain.{ends-more, first-along-zero, first-along-here, first-along-next, first-along-enough}
 
 module _ (next : ℕ → ℕ) (r : ℕ) where
   pub on-zero : (n : ℕ) → onChain next n 0 r ≡ false

@@ -4,15 +4,15 @@ use mathlib.Core.Bool.{Bool, true}
 use mathlib.Core.Path.{_≡_, refl, sym, _∙_}
 use mathlib.Core.Logic.{_⊎_, inl, inr, _≢_, ⊎-elim}
 use mathlib.Core.List.{List, [], _∷_, _++_}
-use native.Mathlib.Nat.{not-suc-le-zero, zero-lt-suc, le-of-suc-le-suc, suc-le-suc-iff}
+use native.Mathlib.Nat.{not-suc-le-zero, le-of-suc-le-suc}
 use lib.Dec.{eqb}
 use lib.ListN.{length, getD}
-use borrow.Author.Tests.{eqb-true, eqb-false}
+use borrow.Author.Tests.{eqb-true}
 use Rattle.laws.specs.Choice.{if_then_else_}
-use Rattle.laws.specs.Sequence.{keep, holds, timesIn, firstOf, upTo}
+use Rattle.laws.specs.Sequence.{keep, holds, timesIn, upTo}
 use Rattle.laws.specs.Order.{Before}
 use Rattle.laws.proofs.Choice.{true-not-false, case-bool}
-use Rattle.laws.proofs.Sequence.{holds-head, holds-tail, holds-cases, holds-rest, holds-getD, holds-place, holds-append-left, holds-append-right, holds-append-cases, times-head-once, times-tail-le}
+use Rattle.laws.proofs.Sequence.{holds-head, holds-tail, holds-cases, holds-rest, holds-getD, holds-append-cases, times-head-once, times-tail-le}
 use Rattle.laws.proofs.Keep.{keep-true, keep-false, keep-in, holds-keep-in}
 
 module _ (x y : ℕ) where
@@ -27,22 +27,6 @@ module _ (x y : ℕ) where
   before-right [] b = absurd b
   before-right (z ∷ l) (inl r) = holds-tail y z l (r .1)
   before-right (z ∷ l) (inr b) = holds-tail y z l (before-right l b)
-
-  pub before-append-left : (l m : List ℕ) → Before x y l → Before x y (l ++ m)
-  unfolding Before
-  before-append-left [] m b = absurd b
-  before-append-left (z ∷ l) m (inl r) = inl (r .0, holds-append-left y l m (r .1))
-  before-append-left (z ∷ l) m (inr b) = inr (before-append-left l m b)
-
-  pub before-append-right : (l m : List ℕ) → Before x y m → Before x y (l ++ m)
-  unfolding Before
-  before-append-right [] m b = b
-  before-append-right (z ∷ l) m b = inr (before-append-right l m b)
-
-  pub before-across : (l m : List ℕ) → holds x l ≡ true → holds y m ≡ true → Before x y (l ++ m)
-  unfolding Before holds
-  before-across [] m h k = true-not-false h refl
-  before-across (z ∷ l) m h k = ⊎-elim (λ e. inl (e, holds-append-right y l m k)) (λ t. inr (before-across l m t k)) (holds-cases x z l h)
 
   pub before-append-cases : (l m : List ℕ) → Before x y (l ++ m) → Before x y l ⊎ (((holds x l ≡ true) × (holds y m ≡ true)) ⊎ Before x y m)
   unfolding Before
@@ -84,17 +68,6 @@ module _ (x y : ℕ) where
       (holds-cases y z l hy))
       (holds-cases x z l hx)
 
-  -- what stands before the first y
-  pub up-to-before : (l : List ℕ) → holds y l ≡ true → holds x (upTo y l) ≡ true → Before x y l
-  unfolding Before upTo holds if_then_else_
-  up-to-before [] hy h = true-not-false h refl
-  up-to-before (z ∷ l) hy h =
-      case-bool (eqb z y)
-      (λ t. true-not-false h (rw t refl))
-      (λ f.
-      let k = holds-rest y z l (λ e. eqb-false z y f (sym e)) hy in
-      ⊎-elim (λ e. inl (e, k)) (λ m. inr (up-to-before l k m)) (holds-cases x z (upTo y l) (rw f at h)))
-
   pub before-up-to : (l : List ℕ) → timesIn y l ≤ 1 → Before x y l → holds x (upTo y l) ≡ true
   unfolding Before upTo if_then_else_
   before-up-to [] o b = absurd b
@@ -109,38 +82,12 @@ module _ (x y : ℕ) where
       (λ c. holds-tail x z (upTo y l) (before-up-to l (times-tail-le y z l o) c))
       b))
 
-  -- by places
-  pub before-places : (l : List ℕ) (d : ℕ) → Before x y l → (i : ℕ) × (j : ℕ) × (i < j) × (j < length l) × (getD l i d ≡ x) × (getD l j d ≡ y)
-  unfolding Before
-  before-places [] d b = absurd b
-  before-places (z ∷ l) d (inl r) =
-      let w = holds-place y l d (r .1) in
-      (0, suc (w .0), zero-lt-suc (w .0), suc-le-suc-iff .1 (w .1), sym (r .0), w .2)
-  before-places (z ∷ l) d (inr b) =
-      let w = before-places l d b in
-      (suc (w .0), suc (w .1), suc-le-suc-iff .1 (w .2), suc-le-suc-iff .1 (w .3), w .4, w .5)
-
--- what firstOf finds stands before all else that passes
-pub first-of-before : (p : ℕ → Bool) (x : ℕ) (l : List ℕ) (other : ℕ) → holds x l ≡ true → p x ≡ true → x ≢ firstOf p l other → Before (firstOf p l other) x l
-unfolding Before firstOf holds if_then_else_
-first-of-before p x [] other h t ne = true-not-false h refl
-first-of-before p x (z ∷ l) other h t ne =
-    case-bool (p z)
-    (λ s. rw s (inl (refl, holds-rest x z l (rw s at ne) h)))
-    (λ f. rw f (inr (first-of-before p x l other (holds-rest x z l (λ e. true-not-false t (rw e f)) h) t (rw f at ne))))
-
 pub before-getD : (l : List ℕ) (i j d : ℕ) → i < j → j < length l → Before (getD l i d) (getD l j d) l
 unfolding Before
 before-getD [] i j d h k = absurd (not-suc-le-zero k)
 before-getD (z ∷ l) i zero d h k = absurd (not-suc-le-zero h)
 before-getD (z ∷ l) zero (suc j) d h k = inl (refl, holds-getD l j d (le-of-suc-le-suc k))
 before-getD (z ∷ l) (suc i) (suc j) d h k = inr (before-getD l i j d (le-of-suc-le-suc h) (le-of-suc-le-suc k))
-
-pub before-irreflexive : (x : ℕ) (l : List ℕ) → timesIn x l ≤ 1 → Before x x l → ⊥
-unfolding Before
-before-irreflexive x [] o b = b
-before-irreflexive x (z ∷ l) o (inl r) = times-head-once x l (rw (← r .0) at o) (r .1)
-before-irreflexive x (z ∷ l) o (inr b) = before-irreflexive x l (times-tail-le x z l o) b
 
 pub before-trans : (x y z : ℕ) (l : List ℕ) → timesIn y l ≤ 1 → Before x y l → Before y z l → Before x z l
 unfolding Before
@@ -151,6 +98,3 @@ before-trans x y z (w ∷ l) o b c =
     (λ r. absurd (times-head-once y l (rw (← r .0) at o) k))
     (λ c. ⊎-elim (λ r. inl (r .0, before-right y z l c)) (λ b. inr (before-trans x y z l (times-tail-le y w l o) b c)) b)
     c
-
-pub before-asymmetric : (x y : ℕ) (l : List ℕ) → timesIn x l ≤ 1 → timesIn y l ≤ 1 → Before x y l → Before y x l → ⊥
-before-asymmetric x y l o q b c = before-irreflexive x l o (before-trans x y x l q b c)

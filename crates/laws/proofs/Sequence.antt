@@ -3,16 +3,16 @@ use Prim.Native.Nat.{ℕ, zero, suc, _+_, _-_, _≤_, _<_}
 use mathlib.Core.Bool.{Bool, true, false, _&&_, _||_, or-false, and-assoc, or-assoc}
 use mathlib.Core.Path.{_≡_, refl, sym, _∙_, ap, ap₂}
 use mathlib.Core.Logic.{_⊎_, inl, inr, _≢_, ⊎-elim}
-use mathlib.Core.List.{List, [], _∷_, _++_, append-assoc, append-nil}
+use mathlib.Core.List.{List, [], _∷_, _++_, append-assoc}
 use native.Mathlib.Nat.{zero-lt-suc, not-suc-le-zero, suc-le-suc-iff, le-of-suc-le-suc, zero-add}
 use native.Mathlib.Omega.{arith}
 use lib.Dec.{eqb, ltb}
-use lib.ListN.{length, getD, take, set, replicate, length-append, length-replicate, length-set}
-use lib.Seq.{take-append-seam, set-append-seam, set-append-left}
+use lib.ListN.{length, getD, take, set, replicate, length-append, length-replicate}
+use lib.Seq.{take-append-seam, set-append-seam}
 use borrow.Author.Tests.{eqb-true, eqb-false, ne-eqb, ltb-true, lt-ltb}
 use Rattle.laws.specs.Choice.{one}
 use Rattle.laws.specs.Sequence.{holds, timesIn, everyIn, countIn, padded}
-use Rattle.laws.proofs.Choice.{true-not-false, case-bool, bool-same, false-of, and-both, and-left, and-right, or-left, or-right, or-cases, or-left-false, or-right-false, one-true, one-false, one-le, one-le-one, eqb-self}
+use Rattle.laws.proofs.Choice.{true-not-false, case-bool, bool-same, false-of, and-both, and-left, and-right, or-left, or-right, or-cases, or-left-false, or-right-false, one-true, one-false, one-le, eqb-self}
 use Rattle.laws.proofs.Columns.{getD-repeated}
 
 -- x occurs
@@ -129,14 +129,6 @@ holds-place x (y ∷ l) d h =
     (λ k. let w = holds-place x l d k in (suc (w .0), suc-le-suc-iff .1 (w .1), w .2))
     (holds-cases x y l h)
 
--- a list with no element twice has different elements at different places
-pub times-distinct : (l : List ℕ) (i j d : ℕ) → ((x : ℕ) → timesIn x l ≤ 1) → i < j → j < length l → getD l i d ≢ getD l j d
-times-distinct [] i j d h k m e = not-suc-le-zero m
-times-distinct (x ∷ l) i zero d h k m e = not-suc-le-zero k
-times-distinct (x ∷ l) zero (suc j) d h k m e = times-head-once x l (h x) (rw e (holds-getD l j d (le-of-suc-le-suc m)))
-times-distinct (x ∷ l) (suc i) (suc j) d h k m e =
-    times-distinct l i j d (λ z. times-tail-le z x l (h z)) (le-of-suc-le-suc k) (le-of-suc-le-suc m) e
-
 -- every element passes
 
 module _ (p : ℕ → Bool) where
@@ -185,34 +177,16 @@ module _ (p : ℕ → Bool) where
   count-in-le [] = omega arith
   count-in-le (y ∷ l) = omega (arith, count-in-le l, one-le (p y))
 
-  pub count-in-all : (l : List ℕ) → everyIn p l ≡ true → countIn p l ≡ length l
-  unfolding countIn everyIn
-  count-in-all [] h = refl
-  count-in-all (y ∷ l) h = omega (arith, one-true (and-left (p y) (everyIn p l) h), count-in-all l (and-right (p y) (everyIn p l) h))
-
   pub count-in-pos-of : (l : List ℕ) (x : ℕ) → holds x l ≡ true → p x ≡ true → 1 ≤ countIn p l
   unfolding countIn holds
   count-in-pos-of [] x h t = true-not-false h refl
   count-in-pos-of (y ∷ l) x h t = ⊎-elim (λ e. omega (arith, one-true (rw e at t))) (λ k. omega (arith, count-in-pos-of l x k t)) (holds-cases x y l h)
 
 module _ (p q : ℕ → Bool) where
-  pub every-imp : (l : List ℕ) → ((x : ℕ) → holds x l ≡ true → p x ≡ true → q x ≡ true) → everyIn p l ≡ true → everyIn q l ≡ true
-  every-imp l h t = every-from q l λ x k. h x k (every-at p l t x k)
-
-  pub every-same : (l : List ℕ) → ((x : ℕ) → holds x l ≡ true → p x ≡ q x) → everyIn p l ≡ everyIn q l
-  unfolding everyIn
-  every-same [] h = refl
-  every-same (y ∷ l) h = ap₂ _&&_ (h y (holds-head y l)) (every-same l λ x k. h x (holds-tail x y l k))
-
   pub count-in-same : (l : List ℕ) → ((x : ℕ) → holds x l ≡ true → p x ≡ q x) → countIn p l ≡ countIn q l
   unfolding countIn
   count-in-same [] h = refl
   count-in-same (y ∷ l) h = ap₂ _+_ (ap one (h y (holds-head y l))) (count-in-same l λ x k. h x (holds-tail x y l k))
-
-  pub count-in-imp : (l : List ℕ) → ((x : ℕ) → holds x l ≡ true → p x ≡ true → q x ≡ true) → countIn p l ≤ countIn q l
-  unfolding countIn
-  count-in-imp [] h = omega arith
-  count-in-imp (y ∷ l) h = omega (arith, one-le-one (p y) (q y) (h y (holds-head y l)), count-in-imp l (λ x k. h x (holds-tail x y l k)))
 
 -- zeros behind the list
 
@@ -232,16 +206,6 @@ getD-zeros (x ∷ l) k (suc i) = getD-zeros l k i
 pub getD-padded : (n : ℕ) (l : List ℕ) (i : ℕ) → getD (padded n l) i 0 ≡ getD l i 0
 unfolding padded
 getD-padded n l i = getD-zeros l (n - length l) i
-
-pub padded-full : (l : List ℕ) → padded (length l) l ≡ l
-unfolding padded
-padded-full l =
-    let e : length l - length l ≡ 0 = omega arith in
-    rw (e, append-nil)
-
-pub set-padded : (n : ℕ) (l : List ℕ) (i x : ℕ) → i < length l → set (padded n l) i x ≡ padded n (set l i x)
-unfolding padded
-set-padded n l i x h = rw length-set (set-append-left l (replicate (n - length l) 0) i x h)
 
 -- one more at the end
 pub set-padded-end : (n : ℕ) (l : List ℕ) (x : ℕ) → length l < n → set (padded n l) (length l) x ≡ padded n (l ++ (x ∷ []))

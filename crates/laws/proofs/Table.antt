@@ -2,7 +2,7 @@
 use Prim.Native.Nat.{ℕ, zero, suc, _+_, _<_}
 use mathlib.Core.Path.{_≡_, refl, sym, _∙_, ap}
 use mathlib.Core.Logic.{_≢_}
-use mathlib.Core.List.{List, [], _∷_, _++_, map, map-append}
+use mathlib.Core.List.{List, [], _∷_}
 use native.Mathlib.Nat.{le-step, lt-suc-self, not-suc-le-zero}
 use native.Mathlib.Numerals.{add-one}
 use native.Mathlib.Decide.{ℕ-discrete}
@@ -29,15 +29,6 @@ module _ {ℓ} {A : Type ℓ} (f : ℕ → A) where
       (λ i l. List·getD-append (tableTo f n) (f n ∷ []) d i (rw length-table l) ∙ getD-table n i d l)
       (getD-at (tableTo f n) (f n) [] d n (length-table n))
       i l
-
-  pub table-step : (i : ℕ) → tableTo f (i + 1) ≡ tableTo f i ++ (f i ∷ [])
-  unfolding tableTo
-  table-step i = rw add-one
-
-  pub map-table {κ} : {B : Type κ} (g : A → B) (n : ℕ) → map g (tableTo f n) ≡ tableTo (λ i. g (f i)) n
-  unfolding tableTo
-  map-table g zero = refl
-  map-table g (suc n) = rw (map-append, map-table g n)
 
 module _ {ℓ} {A : Type ℓ} where
   pub table-same : (f g : ℕ → A) (n : ℕ) → ((i : ℕ) → i < n → f i ≡ g i) → tableTo f n ≡ tableTo g n
@@ -75,11 +66,6 @@ module _ {ℓ} {A : Type ℓ} where
   pub fold-step : (step : ℕ → A → A) (a : A) (i : ℕ) → foldTo step a (i + 1) ≡ step i (foldTo step a i)
   unfolding foldTo
   fold-step step a i = rw add-one
-
-  pub fold-same : (step other : ℕ → A → A) (a : A) (n : ℕ) → ((i : ℕ) → i < n → (x : A) → step i x ≡ other i x) → foldTo step a n ≡ foldTo other a n
-  unfolding foldTo
-  fold-same step other a zero h = refl
-  fold-same step other a (suc n) h = rw (fold-same step other a n (λ i l. h i (le-step l))) (h n (lt-suc-self n) (foldTo other a n))
 
   -- what each step keeps holds at the end
   pub fold-keeps {κ} : (P : ℕ → A → Type κ) (step : ℕ → A → A) (a : A) (n : ℕ) → P 0 a → ((i : ℕ) (x : A) → i < n → P i x → P (suc i) (step i x)) → P n (foldTo step a n)

@@ -1,13 +1,12 @@
 -- Columns with one place written.
-use Prim.Native.Nat.{ℕ, suc, _+_, _≤_, _<_}
+use Prim.Native.Nat.{ℕ, suc, _+_, _<_}
 use mathlib.Core.Path.{_≡_, refl, sym, subst}
 use mathlib.Core.Logic.{_≢_}
-use mathlib.Core.Bool.{Bool, true, false}
 use native.Mathlib.Decide.{ℕ-discrete}
 use native.Mathlib.Omega.{arith}
 use lib.Dec.{eqb}
 use borrow.Author.Tests.{eq-eqb, ne-eqb}
-use Rattle.laws.specs.Choice.{if_then_else_, one}
+use Rattle.laws.specs.Choice.{one}
 use Rattle.laws.specs.Update.{upd}
 use Rattle.laws.proofs.Choice.{if-true, if-false}
 

@@ -1,6 +1,6 @@
 -- Chains of links: what lies on a chain, and the chain of those that pass a test.
 use Prim.Native.Nat.{ℕ, zero, suc}
-use mathlib.Core.Bool.{Bool, true, false, _||_}
+use mathlib.Core.Bool.{Bool, false, _||_}
 use lib.Dec.{eqb}
 use Rattle.laws.specs.Chain.{firstAlong}
 

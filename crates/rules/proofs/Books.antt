@@ -1,19 +1,18 @@
 -- Nothing is lost: the accounts balance after every call.
-use Prim.Native.Nat.{ℕ, zero, suc, _+_, _≤_, _<_}
-use mathlib.Core.Path.{_≡_, refl, sym, _∙_, ap, ap₂, subst}
-use mathlib.Core.Logic.{_≢_, ⊎-elim}
+use Prim.Native.Nat.{ℕ, suc, _+_, _≤_, _<_}
+use mathlib.Core.Path.{_≡_, refl, sym, _∙_, ap, subst}
+use mathlib.Core.Logic.{_≢_}
 use mathlib.Core.Bool.{Bool, true, false, _&&_}
-use mathlib.Core.List.{List, [], _∷_, _++_, map}
+use mathlib.Core.List.{List, [], _∷_, _++_}
 use native.Mathlib.Decide.{ℕ-discrete}
 use native.Mathlib.Nat.{suc-inj, lt-irrefl, not-suc-le-zero}
 use native.Mathlib.Omega.{arith}
-use lib.ListN.{length, getD, set, length-set}
+use lib.ListN.{length, length-set}
 use lib.Seq.{getD-set-same, getD-set-other}
 use lib.Dec.{eqb}
-use borrow.Author.Tests.{eqb-true, eq-eqb, ne-eqb}
-use Rattle.laws.specs.Choice.{if_then_else_, one}
-use Rattle.laws.specs.Sequence.{timesIn}
-use Rattle.laws.proofs.Choice.{true-not-false, case-bool, false-of, and-both, and-left, and-right, and-left-false, and-right-false, if-true, if-false, if-cases}
+use borrow.Author.Tests.{eq-eqb, ne-eqb}
+use Rattle.laws.specs.Choice.{if_then_else_}
+use Rattle.laws.proofs.Choice.{true-not-false, and-both, and-left-false, and-right-false, if-true, if-false}
 use Rattle.laws.proofs.All.{below-suc}
 use Rattle.laws.proofs.Newest.{newest-is, newest-same, newest-new, newest-old, getD-old, getD-new, length-new, set-field}
 use Rattle.rules.specs.declared.State.{State}
@@ -36,19 +35,11 @@ module _ (s : State) (l : List Account) where
   unfolding isOpen stillWaiting
   open-waits i h = if-true _ _ h
 
-  pub closed-waits : (i : ℕ) → isOpen s l i ≡ false → stillWaiting s l i ≡ 0
-  unfolding isOpen stillWaiting
-  closed-waits i h = if-false _ _ h
-
   pub open-of : (j i : ℕ) → isPresent s j ≡ true → accountOf l j ≡ suc i → isOpen s l i ≡ true
   unfolding isOpen accountOf
   open-of j i h e =
       let q = newest-is (λ a. a .job) noAccount l j i e .1 in
       and-both (ap (isPresent s) q ∙ h) (eq-eqb _ (suc i) (ap (accountOf l) q ∙ e))
-
-  pub open-is : (i : ℕ) → isOpen s l i ≡ true → (isPresent s (accountAt l i .job) ≡ true) × (accountOf l (accountAt l i .job) ≡ suc i)
-  unfolding isOpen
-  open-is i h = (and-left _ (eqb (accountOf l (accountAt l i .job)) (suc i)) h, eqb-true _ (suc i) (and-right (isPresent s (accountAt l i .job)) _ h))
 
 -- the same present jobs with the same waiting entries
 pub books-same : {s : State} (t : State) {l : List Account} → Books s l → ((j : ℕ) → isPresent t j ≡ isPresent s j) → ((j : ℕ) → waitingOf t j ≡ waitingOf s j)

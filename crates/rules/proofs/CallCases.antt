@@ -18,7 +18,7 @@ use Rattle.rules.specs.Picking.{finds}
 use Rattle.rules.specs.Pick.{picking}
 use Rattle.rules.specs.Reporting.{reporting}
 use Rattle.rules.specs.Calls.{Reply, Call, job, pick, report, ask, board, lentTo, refusalOf, accepted, unlessRefused, takingReply, pickingReply, afterPick}
-use Rattle.rules.specs.Calls.{reportingReply, replyTo, Decision, took, picked, putOff, takingDecisions, pickingDecision, pickDecisions, decided, decidedUnless, decisionsOn}
+use Rattle.rules.specs.Calls.{reportingReply, replyTo, Decision, took, putOff, takingDecisions, pickingDecision, pickDecisions, decided, decidedUnless, decisionsOn}
 use Rattle.rules.specs.SoundFacts.{Sound}
 use Rattle.rules.specs.Run.{stateFrom, decisionsFrom}
 use Rattle.rules.proofs.Shape.{Shaped}
@@ -27,7 +27,7 @@ use Rattle.rules.proofs.Taken.{Passed}
 use Rattle.rules.proofs.KeptTaking.{kept-taken}
 use Rattle.rules.proofs.KeptPicking.{kept-picking}
 use Rattle.rules.proofs.KeptReporting.{kept-reporting}
-use Rattle.rules.proofs.Accepted.{GoodClock, JobAccepted, job-accepted, passed-of, pick-accepted, report-accepted}
+use Rattle.rules.proofs.Accepted.{GoodClock, job-accepted, passed-of, pick-accepted, report-accepted}
 
 -- What is said of a state and of something that is fed each decision, and how each step carries it on from a sound state. The steps after waking
 -- are at the state's own clock.

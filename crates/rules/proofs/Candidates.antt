@@ -148,22 +148,6 @@ best-none s now t y e = subst (BestLink s now t y (length (listOf (s .arrivals))
 pub best-some : (s : State) (now t y x : ℕ) → bestCandidate s now t y ≡ suc x → Best s now t y (length (listOf (s .arrivals))) x
 best-some s now t y x e = subst (BestLink s now t y (length (listOf (s .arrivals)))) e (best-link s now t y)
 
-pub best-exists : (s : State) (now t y i : ℕ) → i < length (listOf (s .arrivals)) → isCandidate s t y (at (listOf (s .arrivals)) i) ≡ true → bestCandidate s now t y ≢ 0
-best-exists s now t y i l c e = true-not-false c (best-none s now t y e i l)
-
-pub best-of-none : (s : State) (now t y : ℕ) → ((i : ℕ) → i < length (listOf (s .arrivals)) → isCandidate s t y (at (listOf (s .arrivals)) i) ≡ false) → bestCandidate s now t y ≡ 0
-best-of-none s now t y h = go (bestCandidate s now t y) refl
-  where
-    go : (b : ℕ) → bestCandidate s now t y ≡ b → bestCandidate s now t y ≡ 0
-    go zero e = e
-    go (suc x) e = let k = best-some s now t y x e in true-not-false (rw (k .stands) (k .candidate)) (h (k .rank) (k .below))
-
--- the same, by jobs
-pub best-none-job : (s : State) (now t y j : ℕ) → bestCandidate s now t y ≡ 0 → holds j (listOf (s .arrivals)) ≡ true → isCandidate s t y j ≡ false
-best-none-job s now t y j e h =
-    let w = holds-place j (listOf (s .arrivals)) 0 h in
-    subst (λ z. isCandidate s t y z ≡ false) (w .2) (best-none s now t y e (w .0) (w .1))
-
 -- no candidate beats the best
 pub best-unbeaten : (s : State) (now t y n x : ℕ) → Best s now t y n x → (i : ℕ) → i < n → isCandidate s t y (at (listOf (s .arrivals)) i) ≡ true → beats s now (at (listOf (s .arrivals)) i) x ≡ false
 unfolding beats

@@ -1,10 +1,10 @@
 -- Demand 3, proved for every accepted set-up and every list of calls.
-use Prim.Native.Nat.{ℕ, zero, suc, _+_, _-_, _/_, _≤_, _<_}
+use Prim.Native.Nat.{ℕ, _-_, _≤_, _<_}
 use mathlib.Core.Path.{_≡_, refl, sym, _∙_, ap, ap₂, subst}
-use mathlib.Core.Bool.{Bool, true, false, not}
-use mathlib.Core.List.{List, [], _∷_, _++_}
+use mathlib.Core.Bool.{true}
+use mathlib.Core.List.{List, [], _∷_}
 use mathlib.Core.Logic.{⊎-elim}
-use native.Mathlib.Nat.{add-zero, le-trans}
+use native.Mathlib.Nat.{le-trans}
 use native.Mathlib.Omega.{arith}
 use lib.ListN.{length}
 use Rattle.laws.specs.Choice.{if_then_else_}
@@ -19,9 +19,9 @@ use Rattle.rules.specs.Sound.{sound}
 use Rattle.rules.specs.SoundFacts.{Sound}
 use Rattle.rules.specs.Windows.{woken}
 use Rattle.rules.specs.Refusals.{askRefusal}
-use Rattle.rules.specs.Calls.{Call, ask, Says, Reply, granted, unlessRefused, replyTo}
-use Rattle.rules.specs.Tally.{Row, Tally, rowAt, rowOf, linkedRow}
-use Rattle.rules.specs.Run.{stateAfter, tallyOf}
+use Rattle.rules.specs.Calls.{Call, ask, granted, unlessRefused, replyTo}
+use Rattle.rules.specs.Tally.{Tally, rowAt, rowOf, linkedRow}
+use Rattle.rules.specs.Run.{stateAfter}
 use Rattle.rules.specs.Demand3.{Ceilings, Demand3, Companions, Demand3Holds, costFor}
 use Rattle.rules.proofs.Shape.{Shaped}
 use Rattle.rules.proofs.Soundness.{sound-of}
@@ -29,7 +29,7 @@ use Rattle.rules.proofs.EntryTests.{used-not-free, used-job}
 use Rattle.rules.proofs.RangeFacts.{slots-range}
 use Rattle.rules.proofs.EntryFacts.{present-below}
 use Rattle.rules.proofs.Refused.{refusal-answered, sound-not-1}
-use Rattle.rules.proofs.Sim.{costIn, RowIs, JobIs, Sim}
+use Rattle.rules.proofs.Sim.{costIn}
 use Rattle.rules.proofs.SimRows.{row-inside}
 use Rattle.rules.proofs.Picked.{finds-some}
 use Rattle.rules.proofs.KeptWaking.{kept-woken}

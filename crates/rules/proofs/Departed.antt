@@ -11,7 +11,7 @@ use lib.Dec.{eqb}
 use borrow.Author.Tests.{eqb-true}
 use Rattle.laws.specs.Range.{anyTo, tableTo}
 use Rattle.laws.specs.Sequence.{keep}
-use Rattle.laws.proofs.Choice.{true-not-false, false-of, bool-same, and-both, and-left, and-right, and-left-false, if-true, if-false}
+use Rattle.laws.proofs.Choice.{true-not-false, false-of, bool-same, and-both, and-left, and-right, and-left-false, if-true}
 use Rattle.laws.proofs.All.{any-of}
 use Rattle.laws.proofs.Count.{count-none}
 use Rattle.laws.proofs.Keep.{keep-all}
@@ -74,10 +74,6 @@ module _ (s : State) (t : ℕ) (shaped : Shaped s) where
   departed-parent-stays j h =
       departed-parent j (present-below s shaped j (stays-present s j h))
       ∙ if-true (nearestStaying s j) (parentOf s j) h
-
-  pub departed-parent-leaves : (j : ℕ) → j < maxJobs → stays s j ≡ false → parentOf (departed s t) j ≡ parentOf s j
-  unfolding parentAfter
-  departed-parent-leaves j l f = departed-parent j l ∙ if-false (nearestStaying s j) (parentOf s j) f
 
   pub departed-arrivals : listOf ((departed s t) .arrivals) ≡ keep (stays s) (listOf (s .arrivals))
   unfolding departed

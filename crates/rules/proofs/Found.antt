@@ -13,7 +13,7 @@ use Rattle.rules.specs.Sizes.{maxEntries}
 use Rattle.rules.specs.Windows.{woken}
 use Rattle.rules.specs.Picking.{eligible, finds}
 use Rattle.rules.specs.Refusals.{pickRefusal}
-use Rattle.rules.specs.Calls.{Says, Reply, Call, unlessRefused, pickingReply, afterPick, replyTo, pickReply}
+use Rattle.rules.specs.Calls.{Call, unlessRefused, pickingReply, afterPick, replyTo, pickReply}
 use Rattle.rules.specs.Answers.{pickSays}
 use Rattle.rules.specs.Gave.{FindsExactly}
 use Rattle.rules.proofs.Shape.{Shaped}

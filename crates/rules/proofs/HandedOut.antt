@@ -115,11 +115,3 @@ module _ (w : State) (t j place e : ℕ) (shape : Shaped w) (can : CanHandOut w 
   pub handed-picked-other : (i : ℕ) → i ≢ j → at (handedOut w t j place e .jobs .picked) i ≡ at (w .jobs .picked) i
   unfolding handedOut
   handed-picked-other i ne = getD-set-other (w .jobs .picked) j i (at (w .jobs .picked) j + 1) 0 ne
-
-  pub handed-queues : handedOut w t j place e .queues ≡ w .queues
-  unfolding handedOut
-  handed-queues = refl
-
-  pub handed-arrivals : handedOut w t j place e .arrivals ≡ w .arrivals
-  unfolding handedOut
-  handed-arrivals = refl

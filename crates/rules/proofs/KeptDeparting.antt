@@ -6,7 +6,6 @@ use mathlib.Core.Bool.{true, false}
 use native.Mathlib.Omega.{arith}
 use native.Mathlib.Decide.{ℕ-discrete}
 use lib.ListN.{length, getD, length-set}
-use Rattle.laws.specs.Range.{anyTo}
 use Rattle.laws.specs.Chain.{endsIn, firstAlong}
 use Rattle.laws.specs.Sequence.{keep, holds}
 use Rattle.laws.proofs.All.{any-of}

@@ -1,18 +1,17 @@
 -- A report keeps the shape and the soundness of a state; and what it does to jobs, lists and parents.
-use Prim.Native.Nat.{ℕ, _≤_, _<_}
+use Prim.Native.Nat.{ℕ, _<_}
 use mathlib.Core.Path.{_≡_, refl, ap}
-use mathlib.Core.Logic.{_≢_, _⊎_, inl, inr, ⊎-elim}
+use mathlib.Core.Logic.{_⊎_, inl, inr, ⊎-elim}
 use mathlib.Core.Bool.{Bool, true, not}
 use native.Mathlib.Omega.{arith}
-use Rattle.laws.specs.Range.{anyTo}
 use Rattle.rules.specs.declared.Settings.{Settings}
 use Rattle.rules.specs.declared.Health.{Health}
 use Rattle.rules.specs.declared.Health.the-variants.{Live, Dead}
 use Rattle.rules.specs.declared.Outcome.{Outcome}
 use Rattle.rules.specs.declared.Outcome.the-variants.{Success, Failure}
 use Rattle.rules.specs.declared.State.{State}
-use Rattle.rules.specs.Sizes.{maxJobs, maxEntries, lastSecond}
-use Rattle.rules.specs.State.{at, healthOf, isLive, settingsFor, transportOf, isBusy, isPresent, destinationOf, usedOf}
+use Rattle.rules.specs.Sizes.{maxEntries}
+use Rattle.rules.specs.State.{at, healthOf, isLive, settingsFor, transportOf, isBusy, destinationOf}
 use Rattle.rules.specs.Setup.{settingsInRange}
 use Rattle.rules.specs.SoundFacts.{Sound}
 use Rattle.rules.specs.Windows.{afterSuccess, afterFailure, afterReport}

@@ -1,5 +1,5 @@
 -- The destination's step of a report keeps the shape, and soundness but that the jobs of its transport have an entry each.
-use Prim.Native.Nat.{ℕ, suc, _+_, _-_, _*_, _≤_, _<_}
+use Prim.Native.Nat.{ℕ, _+_, _-_, _≤_, _<_}
 use mathlib.Core.Path.{_≡_, sym, _∙_, ap, subst}
 use mathlib.Core.Logic.{_≢_, _⊎_, inl, inr, ⊎-elim}
 use mathlib.Core.Bool.{Bool, true, false}
@@ -9,8 +9,7 @@ use native.Mathlib.Decide.{ℕ-discrete}
 use lib.ListN.{length-set}
 use lib.Seq.{getD-set-same, getD-set-other}
 use Rattle.laws.specs.Range.{anyTo, countTo}
-use Rattle.laws.specs.Chain.{endsIn}
-use Rattle.laws.specs.Sequence.{holds, timesIn}
+use Rattle.laws.specs.Sequence.{holds}
 use Rattle.laws.proofs.Choice.{true-not-false}
 use Rattle.laws.proofs.All.{any-imp}
 use Rattle.laws.proofs.Count.{count-le}
@@ -19,11 +18,11 @@ use Rattle.rules.specs.declared.Health.{Health}
 use Rattle.rules.specs.declared.Health.the-variants.{Live, Dead}
 use Rattle.rules.specs.declared.Sums.{Sums}
 use Rattle.rules.specs.declared.State.{State}
-use Rattle.rules.specs.Sizes.{maxDestinations, maxJobs, maxEntries, maxLength, sumLimit}
+use Rattle.rules.specs.Sizes.{maxJobs, maxEntries}
 use Rattle.rules.specs.State.{at, zeroDestination, healthOf, settingsFor, transportOf, isFree, isWaiting, isBusy, isPresent, destinationOf}
-use Rattle.rules.specs.State.{busyOf, usedOf, waitingOf, parentOf}
-use Rattle.rules.specs.Sound.{busyOn, busyTo, isJobOn, orderOf, costOf}
-use Rattle.rules.specs.SoundFacts.{EntrySound, QueueSound, ArrivalsSound, ChildOf, JobSound, LiveSound, DestinationSound, Sound, SoundBesides}
+use Rattle.rules.specs.State.{busyOf, usedOf, waitingOf}
+use Rattle.rules.specs.Sound.{isJobOn, orderOf}
+use Rattle.rules.specs.SoundFacts.{EntrySound, QueueSound, ArrivalsSound, JobSound, LiveSound, DestinationSound, Sound, SoundBesides}
 use Rattle.rules.specs.Reporting.{isPutOff, putOffOf, kindAfter, settled}
 use Rattle.rules.proofs.Shape.{Shaped, dropped-length}
 use Rattle.rules.proofs.EntryTests.{waiting-used, used-job, used-not-free, same-free, same-waiting, same-busy, same-used}

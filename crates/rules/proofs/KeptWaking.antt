@@ -111,23 +111,3 @@ module _ (s : State) (now : ℕ) where
   pub woken-setup : woken s now .setup ≡ s .setup
   unfolding woken
   woken-setup = refl
-
-  pub woken-clock : woken s now .clock ≡ now
-  unfolding woken
-  woken-clock = refl
-
-  pub woken-queues : woken s now .queues ≡ s .queues
-  unfolding woken
-  woken-queues = refl
-
-  pub woken-arrivals : woken s now .arrivals ≡ s .arrivals
-  unfolding woken
-  woken-arrivals = refl
-
-  pub woken-jobs : woken s now .jobs ≡ s .jobs
-  unfolding woken
-  woken-jobs = refl
-
-  pub woken-entries : woken s now .entries ≡ s .entries
-  unfolding woken
-  woken-entries = refl

@@ -12,21 +12,21 @@ use lib.Dec.{eqb}
 use borrow.Author.Tests.{eqb-true, eq-eqb, ne-eqb}
 use Rattle.laws.specs.Choice.{if_then_else_, one}
 use Rattle.laws.specs.Sequence.{timesIn}
-use Rattle.laws.proofs.Choice.{true-not-false, case-bool, false-of, and-both, one-true, one-false, if-true, if-false}
+use Rattle.laws.proofs.Choice.{true-not-false, case-bool, one-true, one-false, if-true, if-false}
 use Rattle.laws.proofs.Newest.{newest-is, set-field}
 use Rattle.laws.proofs.Sequence.{times-cons, times-single}
 use Rattle.rules.specs.declared.Setup.{Setup}
 use Rattle.rules.specs.declared.State.{State}
 use Rattle.rules.specs.declared.Outcome.{Outcome}
 use Rattle.rules.specs.Sizes.{maxEntries}
-use Rattle.rules.specs.State.{at, isPresent, isBusy, jobOf, destinationOf, waitingOf, waitsOf}
+use Rattle.rules.specs.State.{at, isPresent, isBusy, jobOf, destinationOf, waitingOf}
 use Rattle.rules.specs.Setup.{setupInRange, freshState}
 use Rattle.rules.specs.SoundFacts.{Sound}
 use Rattle.rules.specs.Windows.{woken}
 use Rattle.rules.specs.Taking.{keptOf, nOf, newNumber, taken}
-use Rattle.rules.specs.Picking.{finds, passedOver, nextPlace, nextEntry}
+use Rattle.rules.specs.Picking.{finds, nextPlace, nextEntry}
 use Rattle.rules.specs.Preemption.{preempting}
-use Rattle.rules.specs.Pick.{Picked, nobody, preemption, handedOut, pickFrom, picking}
+use Rattle.rules.specs.Pick.{handedOut, pickFrom, picking}
 use Rattle.rules.specs.Reporting.{reporting}
 use Rattle.rules.specs.Calls.{took, putOff, Call, pickingDecision}
 use Rattle.rules.specs.Run.{stateAfter}
@@ -45,7 +45,7 @@ use Rattle.rules.proofs.RangeFacts.{in-range-facts}
 use Rattle.rules.proofs.KeptFresh.{kept-fresh}
 use Rattle.rules.proofs.CallCases.{Steps, calls-keep}
 use Rattle.rules.proofs.SimFresh.{none-present}
-use Rattle.rules.proofs.Books.{Books, isOpen, no-books, open-waits, closed-waits, open-of, open-is, books-same, books-taken, booked-length, booked-job, booked-taken}
+use Rattle.rules.proofs.Books.{Books, no-books, books-same, books-taken, booked-length, booked-job, booked-taken}
 use Rattle.rules.proofs.Books.{booked-here, booked-there, booked-account, books-picked}
 
 -- Entries are put off: what that does to each account.

@@ -41,14 +41,6 @@ module _ (w : State) (t x y m : ℕ) where
   unfolding preempting
   preempting-transport j = refl
 
-  pub preempting-picked : preempting w t x y m .jobs .picked ≡ w .jobs .picked
-  unfolding preempting
-  preempting-picked = refl
-
-  pub preempting-arrivals : preempting w t x y m .arrivals ≡ w .arrivals
-  unfolding preempting
-  preempting-arrivals = refl
-
   pub preempting-overtakers : preempting w t x y m .jobs .overtakers ≡ charged (parentOf w) y m (w .jobs .overtakers)
   unfolding preempting
   preempting-overtakers = refl

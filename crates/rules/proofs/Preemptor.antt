@@ -1,5 +1,5 @@
 -- What holds of a job x that preempts the current job y.
-use Prim.Native.Nat.{ℕ, zero, suc, _+_, _-_, _*_, _/_, _≤_, _<_}
+use Prim.Native.Nat.{ℕ, zero, suc, _+_, _-_, _*_, _≤_, _<_}
 use mathlib.Core.Bool.{true, false, not}
 use mathlib.Core.Path.{_≡_, refl, sym, _∙_, subst}
 use mathlib.Core.Logic.{_≢_, ⊎-elim}
@@ -7,7 +7,7 @@ use native.Mathlib.Nat.{le-div-iff-mul-le, mul-comm}
 use native.Mathlib.Omega.{arith}
 use lib.ListN.{length}
 use lib.IntN.{pos, _-ℤ_}
-use lib.Dec.{eqb, ltb, leb}
+use lib.Dec.{eqb, ltb}
 use borrow.Author.Tests.{eqb-false, leb-true, not-true}
 use Rattle.laws.specs.Sequence.{holds}
 use Rattle.laws.specs.Order.{Before}
@@ -21,7 +21,7 @@ use Rattle.rules.specs.Sizes.{maxJobs}
 use Rattle.rules.specs.State.{at, settingsOf, listOf, queueOf, isPresent, hasPreempted, waitingOf}
 use Rattle.rules.specs.SoundFacts.{Sound}
 use Rattle.rules.specs.Picking.{hasEligible}
-use Rattle.rules.specs.Preemption.{credit, hasCredit, owned, creditOf, affordable, canPayFor, isCandidate, bestCandidate, paysFor, paysForBest, longEnough, isPreempted, preemptorOf}
+use Rattle.rules.specs.Preemption.{credit, hasCredit, owned, creditOf, affordable, canPayFor, isCandidate, bestCandidate, paysForBest, longEnough, isPreempted, preemptorOf}
 use Rattle.rules.proofs.Shape.{Shaped}
 use Rattle.rules.proofs.RangeFacts.{slots-range}
 use Rattle.rules.proofs.EntryFacts.{has-eligible-waits}
@@ -86,13 +86,6 @@ preempted-facts w now t y h =
     let c = settingsOf w t .cost in
     let r = and-4 (not (eqb c 0)) (hasCredit (creditOf w t y)) (longEnough (settingsOf w t) (at (w .jobs .n) y)) (paysForBest w t y (bestCandidate w now t y)) h in
     (eqb-false c 0 (not-true (eqb c 0) (r .0)), r .1, leb-true (settingsOf w t .minimum * c) (at (w .jobs .n) y) (r .2), r .3)
-
--- "100·(a/c rounded down + L) ≥ m·(100-d)", for the one that preempts
-pub preemptor-pays : (w : State) (now t y x : ℕ) → preemptorOf w now t y ≡ suc x → paysFor (settingsOf w t) (owned (creditOf w t y)) (waitingOf w x) ≡ true
-unfolding paysForBest
-preemptor-pays w now t y x e =
-    let p = preemptor-is w now t y x e in
-    subst (λ b. paysForBest w t y b ≡ true) (p .1) (preempted-facts w now t y (p .0) .3)
 
 -- with an eligible entry, another job stands behind the current one
 stands-behind : (w : State) (t y x : ℕ) → Shaped w → Sound w → t < w .setup .transports → Current w t y → x ≢ y → isPresent w x ≡ true → at (w .jobs .transport) x ≡ t → hasEligible w x ≡ true → Before y x (queueOf w t)

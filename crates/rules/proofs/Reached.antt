@@ -1,7 +1,7 @@
 -- Every state reached from an accepted set-up is sound, and the tally beside it is that of some columns of `ceiling`.
-use Prim.Native.Nat.{ℕ, suc, _≤_, _<_}
-use mathlib.Core.Path.{_≡_, refl, sym, _∙_, ap, subst}
-use mathlib.Core.Bool.{Bool, true, false}
+use Prim.Native.Nat.{ℕ}
+use mathlib.Core.Path.{_≡_, refl}
+use mathlib.Core.Bool.{true}
 use mathlib.Core.List.{List, [], _∷_, map, foldl}
 use Rattle.ceiling.specs.Columns.{Columns}
 use Rattle.ceiling.specs.Steps.{fresh, addRow, lessen}

@@ -3,26 +3,22 @@ use Prim.Native.Nat.{ℕ, zero, suc, _≤_}
 use mathlib.Core.Path.{_≡_, refl, subst}
 use mathlib.Core.Logic.{_≢_}
 use mathlib.Core.Bool.{Bool, true, false, not}
-use mathlib.Core.List.{List, [], _∷_}
+use mathlib.Core.List.{List, []}
 use native.Mathlib.Nat.{not-suc-le-zero}
 use native.Mathlib.Omega.{arith}
 use lib.ListN.{length}
 use lib.Dec.{eqb, ltb}
-use borrow.Author.Tests.{not-true, not-false}
 use Rattle.laws.specs.Choice.{if_then_else_}
 use Rattle.laws.specs.Sequence.{everyIn}
-use Rattle.laws.proofs.Choice.{if-true, if-false, case-bool, true-not-false}
 use Rattle.rules.specs.declared.State.{State}
-use Rattle.rules.specs.declared.Outcome.{Outcome}
 use Rattle.rules.specs.Setup.{within}
 use Rattle.rules.specs.State.{isPresent}
 use Rattle.rules.specs.Sound.{sound}
 use Rattle.rules.specs.Windows.{woken}
 use Rattle.rules.specs.Taking.{nOf}
 use Rattle.rules.specs.Picking.{finds}
-use Rattle.rules.specs.Pick.{picking}
 use Rattle.rules.specs.Refusals.{jobRefusal, pickRefusal, reportRefusal, askRefusal, boardRefusal, badClock, isDestinationOn, lacksNumber, lacksPlaces, isBusyWith}
-use Rattle.rules.specs.Calls.{Says, Reply, Call, lentTo, refusalOf, accepted, unlessRefused, takingReply, pickingReply, afterPick, reportingReply, replyTo}
+use Rattle.rules.specs.Calls.{Reply, Call, lentTo, refusalOf, accepted, unlessRefused, takingReply, pickingReply, afterPick, reportingReply, replyTo}
 
 -- what a refused call gives
 pub record Unchanged (s : State) (lent : List ℕ) (r : Reply) : Type 0 where

@@ -1,28 +1,25 @@
 -- What a report does to jobs, lists and parents, in the terms of the state before it.
 use Prim.Native.Nat.{ℕ, _+_, _-_, _≤_, _<_}
 use mathlib.Core.Path.{_≡_, refl, sym, _∙_, ap, fun-ext}
-use mathlib.Core.Logic.{_≢_}
-use mathlib.Core.Bool.{Bool, true, false, _&&_}
+use mathlib.Core.Bool.{Bool, true, false}
 use mathlib.Core.List.{map}
 use native.Mathlib.Omega.{arith}
-use lib.Dec.{eqb}
 use Rattle.laws.specs.Sequence.{keep, timesIn}
-use Rattle.laws.proofs.Count.{count-none}
 use Rattle.laws.proofs.Keep.{keep-same}
 use Rattle.laws.proofs.ChosenTimes.{times-chosen}
 use Rattle.rules.specs.declared.Health.{Health}
 use Rattle.rules.specs.declared.Outcome.{Outcome}
 use Rattle.rules.specs.declared.State.{State}
-use Rattle.rules.specs.Sizes.{maxTransports, maxJobs, maxEntries}
-use Rattle.rules.specs.State.{at, healthOf, transportOf, listOf, queueOf, isBusy, isPresent, jobOf, destinationOf, waitsOf, waitingOf, parentOf}
+use Rattle.rules.specs.Sizes.{maxTransports, maxEntries}
+use Rattle.rules.specs.State.{healthOf, transportOf, queueOf, isBusy, isPresent, jobOf, destinationOf, waitsOf, waitingOf, parentOf}
 use Rattle.rules.specs.SoundFacts.{Sound, SoundBesides}
 use Rattle.rules.specs.Reporting.{reportedHealth, dies, isPutOff, putOffEntries, putOffOf, settled, stays, nearestStaying, departed, reportedAt, reporting}
 use Rattle.rules.proofs.Shape.{Shaped}
 use Rattle.rules.proofs.Settled.{settled-waiting}
 use Rattle.rules.proofs.SettledCounts.{reported-entry, reported-transport}
-use Rattle.rules.proofs.KeptSettling.{shaped-settled, settled-dropped, settled-health, settled-health-other, sound-settled}
-use Rattle.rules.proofs.Departed.{stays-present, leaves-waiting, departed-present, departed-parent-stays, departed-parent-leaves}
-use Rattle.rules.proofs.Departed.{departed-arrivals, departed-queues}
+use Rattle.rules.proofs.KeptSettling.{shaped-settled, sound-settled}
+use Rattle.rules.proofs.Departed.{stays-present, leaves-waiting, departed-present, departed-parent-stays}
+use Rattle.rules.proofs.Departed.{departed-queues}
 use Rattle.rules.proofs.KeptReporting.{stepped-of}
 
 -- the destination's health after a report of entry e, and whether it died
@@ -83,11 +80,6 @@ report-leaves w now e outcome =
       entryTicket = refl;
     }
 
--- the state after is the settled one without those that leave
-pub reported-is : (w : State) (now e : ℕ) (outcome : Outcome) → (reportedBy w now e outcome) ≡ departed (settledBy w now e outcome) (transportOf w (destinationOf w e))
-unfolding reporting reportedAt
-reported-is w now e outcome = refl
-
 reported-waiting-settled : (w : State) (now e : ℕ) (outcome : Outcome) (j : ℕ) → waitingOf (reportedBy w now e outcome) j ≡ waitingOf (settledBy w now e outcome) j
 unfolding reporting reportedAt departed waitingOf waitsOf
 reported-waiting-settled w now e outcome j = refl
@@ -110,13 +102,6 @@ module _ (w : State) (now e : ℕ) (outcome : Outcome) (shaped : Shaped w) (soun
 
   pub reported-waiting-le : (j : ℕ) → waitingOf (reportedBy w now e outcome) j ≤ waitingOf w j
   reported-waiting-le j = omega (arith, reported-waiting j)
-
-  pub reported-waiting-minus : (j : ℕ) → waitingOf (reportedBy w now e outcome) j ≡ waitingOf w j - putOffOf w (diedBy w now e outcome) (destinationOf w e) j
-  reported-waiting-minus j = omega (arith, reported-waiting j)
-
-  pub reported-dropped : (j : ℕ) → j < maxJobs → at ((reportedBy w now e outcome) .jobs .dropped) j ≡ at (w .jobs .dropped) j + putOffOf w (diedBy w now e outcome) (destinationOf w e) j
-  unfolding reporting reportedAt departed
-  reported-dropped j l = settled-dropped w e (healthBy w now e outcome) (diedBy w now e outcome) shaped sound inside busy j l
 
   -- Who stays.
 
@@ -142,10 +127,6 @@ module _ (w : State) (now e : ℕ) (outcome : Outcome) (shaped : Shaped w) (soun
   unfolding settled
   settled-queues u = refl
 
-  settled-arrivals : listOf ((settledBy w now e outcome) .arrivals) ≡ listOf (w .arrivals)
-  unfolding settled
-  settled-arrivals = refl
-
   settled-transports : (settledBy w now e outcome) .setup .transports ≡ w .setup .transports
   unfolding settled
   settled-transports = refl
@@ -162,12 +143,6 @@ module _ (w : State) (now e : ℕ) (outcome : Outcome) (shaped : Shaped w) (soun
       departed-queues (settledBy w now e outcome) (transportOf w (destinationOf w e)) settledShape below-four (besides .used) u (besides .queues u (rw settled-transports l))
       ∙ keep-same (stays (settledBy w now e outcome)) (isPresent (reportedBy w now e outcome)) (queueOf (settledBy w now e outcome) u) (λ x h. sym (reported-present x)) ∙ ap (keep (isPresent (reportedBy w now e outcome))) (settled-queues u)
 
-  pub reported-arrivals : listOf ((reportedBy w now e outcome) .arrivals) ≡ keep (isPresent (reportedBy w now e outcome)) (listOf (w .arrivals))
-  unfolding reporting reportedAt
-  reported-arrivals =
-      departed-arrivals (settledBy w now e outcome) (transportOf w (destinationOf w e)) settledShape
-      ∙ keep-same (stays (settledBy w now e outcome)) (isPresent (reportedBy w now e outcome)) (listOf ((settledBy w now e outcome) .arrivals)) (λ x h. sym (reported-present x)) ∙ ap (keep (isPresent (reportedBy w now e outcome))) settled-arrivals
-
   -- Parents.
 
   pub stays-are-present : stays (settledBy w now e outcome) ≡ isPresent (reportedBy w now e outcome)
@@ -178,21 +153,6 @@ module _ (w : State) (now e : ℕ) (outcome : Outcome) (shaped : Shaped w) (soun
   unfolding reporting reportedAt
   reported-parent j h = departed-parent-stays (settledBy w now e outcome) (transportOf w (destinationOf w e)) settledShape j (sym (reported-present j) ∙ h)
 
-  -- the link of one that leaves stands
-  pub left-parent : (j : ℕ) → j < maxJobs → isPresent (reportedBy w now e outcome) j ≡ false → parentOf (reportedBy w now e outcome) j ≡ parentOf w j
-  unfolding reporting reportedAt settled
-  left-parent j l f = departed-parent-leaves (settledBy w now e outcome) (transportOf w (destinationOf w e)) settledShape j l (sym (reported-present j) ∙ f)
-
-  -- Destinations.
-
-  pub reported-health : healthOf (reportedBy w now e outcome) (destinationOf w e) ≡ (healthBy w now e outcome)
-  unfolding reporting reportedAt departed
-  reported-health = settled-health w e (healthBy w now e outcome) (diedBy w now e outcome) shaped sound inside busy
-
-  pub reported-health-other : (d : ℕ) → d ≢ (destinationOf w e) → healthOf (reportedBy w now e outcome) d ≡ healthOf w d
-  unfolding reporting reportedAt departed
-  reported-health-other = settled-health-other w e (healthBy w now e outcome) (diedBy w now e outcome) shaped sound inside busy
-
 -- the put-off list, and how many of its entries are a job's
 pub reported-putoff : (w : State) (now e : ℕ) (outcome : Outcome) → reporting w now e (destinationOf w e) outcome .putoff ≡ putOffEntries w (diedBy w now e outcome) (destinationOf w e)
 unfolding reporting reportedAt
@@ -201,8 +161,3 @@ reported-putoff w now e outcome = refl
 pub putoff-times : (w : State) (died : Bool) (d j : ℕ) → timesIn j (map (jobOf w) (putOffEntries w died d)) ≡ putOffOf w died d j
 unfolding putOffEntries putOffOf
 putoff-times w died d j = times-chosen (jobOf w) (isPutOff w died d) j maxEntries
-
--- none, where the destination did not die
-pub putoff-none : (w : State) (d j : ℕ) → putOffOf w false d j ≡ 0
-unfolding putOffOf isPutOff
-putoff-none w d j = count-none (λ e. isPutOff w false d e && eqb (jobOf w e) j) maxEntries λ e l. refl

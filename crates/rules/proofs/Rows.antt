@@ -4,7 +4,6 @@ use mathlib.Core.Path.{_≡_}
 use mathlib.Core.Logic.{_≢_}
 use mathlib.Core.List.{List, [], _∷_, _++_}
 use lib.ListN.{length}
-use Rattle.laws.specs.Newest.{newest}
 use Rattle.laws.proofs.Newest.{newest-is, newest-same, newest-new, newest-old}
 use Rattle.rules.specs.Tally.{Row, noRow, rowAt, rowOf}
 

@@ -25,10 +25,6 @@ use Rattle.rules.proofs.EntryTests.{SameEntry, waits-of, waits-waiting,
 -- an entry that is put off
 
 module _ (s : State) (died : Bool) (d e : ℕ) where
-  pub put-off-died : isPutOff s died d e ≡ true → died ≡ true
-  unfolding isPutOff
-  put-off-died h = and-3 died (isWaiting s e) (eqb (destinationOf s e) d) h .0
-
   pub put-off-waiting : isPutOff s died d e ≡ true → isWaiting s e ≡ true
   unfolding isPutOff
   put-off-waiting h = and-3 died (isWaiting s e) (eqb (destinationOf s e) d) h .1
@@ -92,9 +88,6 @@ module _ (w : State) (e : ℕ) (health : Health) (died : Bool) (shaped : Shaped 
     | yes q ↦ f q (subst (Ended w (settled w e (destinationOf w e) health died)) (sym q) settled-self)
     | no ne ↦ case-bool (isPutOff w died (destinationOf w e) i) (λ t. g ne t (settled-off i l ne t)) (λ t. h ne t (settled-same i l ne t))
   ]
-
-  pub self-not-put-off : isPutOff w died (destinationOf w e) e ≡ false
-  self-not-put-off = false-of λ t. true-not-false (put-off-waiting w died (destinationOf w e) e t) (busy-not-waiting w e busy)
 
   -- What is used afterwards was used, and is unchanged.
 

@@ -1,7 +1,7 @@
 -- The chain of stored parents is the chain of named rows, those that left passed over.
 use Prim.Native.Nat.{ℕ, zero, suc, _+_, _<_}
 use mathlib.Core.Path.{_≡_, refl, sym, _∙_, ap, ap₂, subst}
-use mathlib.Core.Bool.{Bool, true, false, _||_}
+use mathlib.Core.Bool.{true, _||_}
 use mathlib.Core.List.{List}
 use native.Mathlib.Nat.{suc-inj, not-suc-le-zero}
 use native.Mathlib.Omega.{arith}
@@ -19,7 +19,7 @@ use Rattle.rules.specs.declared.State.{State}
 use Rattle.rules.specs.State.{isPresent, parentOf}
 use Rattle.rules.specs.Tally.{Row, Tally, rowAt, rowOf}
 use Rattle.rules.proofs.Rows.{row-of-is}
-use Rattle.rules.proofs.Sim.{presentRow, jobLink, JobIs, Sim}
+use Rattle.rules.proofs.Sim.{presentRow, jobLink, Sim}
 use Rattle.rules.proofs.SimRows.{row-inside, present-of, present-row-is}
 
 pub link-to-job : (rows : List Row) (b a : ℕ) → rowOf rows b ≡ suc a → jobLink rows (suc a) ≡ suc b

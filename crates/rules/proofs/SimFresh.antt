@@ -1,8 +1,8 @@
 -- The simulation at the start, and through waking.
-use Prim.Native.Nat.{ℕ, _<_}
+use Prim.Native.Nat.{ℕ}
 use mathlib.Core.Path.{_≡_, refl, ap}
-use mathlib.Core.Bool.{Bool, true, false}
-use mathlib.Core.List.{List, []}
+use mathlib.Core.Bool.{false}
+use mathlib.Core.List.{[]}
 use native.Mathlib.Nat.{not-suc-le-zero}
 use Rattle.laws.specs.Order.{Before}
 use Rattle.laws.proofs.Choice.{true-not-false}

@@ -1,6 +1,6 @@
 -- The simulation through handing out an entry.
-use Prim.Native.Nat.{ℕ, zero, suc, pred, _+_, _-_, _≤_, _<_}
-use mathlib.Core.Path.{_≡_, refl, sym, _∙_, ap, ap₂, subst}
+use Prim.Native.Nat.{ℕ, suc, _+_, _-_, _<_}
+use mathlib.Core.Path.{_≡_, refl, sym, _∙_, ap, subst}
 use mathlib.Core.Logic.{_≢_}
 use mathlib.Core.Bool.{Bool, true, false}
 use mathlib.Core.List.{List}
@@ -16,10 +16,9 @@ use Rattle.laws.proofs.Update.{upd-same, upd-other, at-or-off, upd-agree}
 use Rattle.laws.proofs.Onto.{near-same}
 use Rattle.ceiling.specs.Columns.{Columns}
 use Rattle.ceiling.specs.Steps.{Picking, pick}
-use Rattle.ceiling.proofs.Invariant.{Inv, inv-pick, inv-leave}
+use Rattle.ceiling.proofs.Invariant.{inv-pick, inv-leave}
 use Rattle.rules.specs.declared.Setup.{Setup}
 use Rattle.rules.specs.declared.State.{State}
-use Rattle.rules.specs.Sizes.{maxJobs}
 use Rattle.rules.specs.State.{at, isPresent, waitingOf}
 use Rattle.rules.specs.Pick.{handedOut}
 use Rattle.rules.specs.Tally.{Row, Tally, rowAt, rowOf, noting, withPickAt}

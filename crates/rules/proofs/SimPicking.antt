@@ -1,19 +1,17 @@
 -- The simulation through a whole pick.
-use Prim.Native.Nat.{ℕ, zero, suc, _+_, _≤_, _<_}
+use Prim.Native.Nat.{ℕ, suc, _≤_, _<_}
 use mathlib.Core.Path.{_≡_, sym, _∙_, ap, subst}
 use mathlib.Core.Logic.{_≢_, _⊎_, inl, inr, ⊎-elim}
 use mathlib.Core.Bool.{Bool, true, false, _&&_}
-use mathlib.Core.List.{List, []}
+use mathlib.Core.List.{List}
 use native.Mathlib.Decide.{ℕ-discrete}
 use native.Mathlib.Nat.{suc-inj, lt-of-lt-of-le}
 use native.Mathlib.Omega.{arith}
 use lib.Dec.{ltb}
 use borrow.Author.Tests.{lt-ltb}
-use Rattle.laws.specs.Choice.{one}
 use Rattle.laws.specs.Order.{Before}
 use Rattle.laws.specs.Sequence.{holds, upTo, moveBefore}
-use Rattle.laws.specs.Update.{upd}
-use Rattle.laws.proofs.Choice.{true-not-false, case-bool, true-of, and-both}
+use Rattle.laws.proofs.Choice.{true-not-false, true-of, and-both}
 use Rattle.laws.proofs.Both.{and-3}
 use Rattle.laws.proofs.Sequence.{count-in-pos-of}
 use Rattle.laws.proofs.Found.{up-to-in}
@@ -24,22 +22,22 @@ use Rattle.ceiling.specs.Columns.{Columns}
 use Rattle.ceiling.specs.Steps.{Picking, pick, preempt}
 use Rattle.rules.specs.declared.Setup.{Setup}
 use Rattle.rules.specs.declared.State.{State}
-use Rattle.rules.specs.State.{at, queueOf, isPresent, waitingOf}
+use Rattle.rules.specs.State.{queueOf, waitingOf}
 use Rattle.rules.specs.SoundFacts.{Sound}
-use Rattle.rules.specs.Picking.{finds, hasEligible, passedOver, nextPlace, nextEntry}
+use Rattle.rules.specs.Picking.{finds, passedOver, nextPlace, nextEntry}
 use Rattle.rules.specs.Preemption.{preempting}
-use Rattle.rules.specs.Pick.{Preemption, nobody, preemption, Found, Picked, handedOut, pickFrom, picking}
-use Rattle.rules.specs.Calls.{Decision, pickingDecision}
-use Rattle.rules.specs.Tally.{Row, Tally, rowAt, rowOf, naming, overtaken, noting, withPreemption, preemptedRows, withPickAt, withPick, tallied}
+use Rattle.rules.specs.Pick.{nobody, preemption, handedOut, pickFrom, picking}
+use Rattle.rules.specs.Calls.{pickingDecision}
+use Rattle.rules.specs.Tally.{Row, Tally, rowAt, rowOf, naming, overtaken, withPreemption, preemptedRows, withPickAt, withPick, tallied}
 use Rattle.rules.proofs.Shape.{Shaped}
 use Rattle.rules.proofs.EntryFacts.{has-eligible-waits}
-use Rattle.rules.proofs.Picked.{TransportFound, Current, queue-once, queue-holds, queue-job}
+use Rattle.rules.proofs.Picked.{Current, queue-once, queue-holds, queue-job}
 use Rattle.rules.proofs.Preemptor.{Preempts}
 use Rattle.rules.proofs.KeptPreempting.{kept-preempting}
-use Rattle.rules.proofs.Preempted.{preempting-waits, preempting-queue-own, preempting-eligible}
+use Rattle.rules.proofs.Preempted.{preempting-queue-own, preempting-eligible}
 use Rattle.rules.proofs.KeptPicking.{next-can, picking-cases}
-use Rattle.rules.proofs.Sim.{presentRow, Ahead, JobIs, Sim}
-use Rattle.rules.proofs.SimRows.{job-is, row-inside, present-of, present-row-is, same-row-of}
+use Rattle.rules.proofs.Sim.{presentRow, Ahead, Sim}
+use Rattle.rules.proofs.SimRows.{job-is, row-inside, present-row-is, same-row-of}
 use Rattle.rules.proofs.SimPick.{sim-handed-out}
 use Rattle.rules.proofs.SimTally.{Alike, alike-jobs, alike-transport, preempted-alike}
 use Rattle.rules.proofs.SimPreempt.{sim-preempting}

@@ -1,20 +1,17 @@
 -- The simulation through a report.
 use Prim.Native.Nat.{ℕ, zero, suc, _+_, _≤_, _<_}
-use mathlib.Core.Path.{_≡_, refl, sym, _∙_, ap, ap₂, subst}
-use mathlib.Core.Logic.{_≢_}
+use mathlib.Core.Path.{_≡_, refl, sym, _∙_, ap, subst}
 use mathlib.Core.Bool.{Bool, true, false, _&&_}
-use mathlib.Core.List.{List}
 use native.Mathlib.Nat.{suc-inj}
 use native.Mathlib.Omega.{arith}
 use lib.ListN.{getD}
 use lib.Dec.{eqb}
-use borrow.Author.Tests.{eq-eqb}
 use Rattle.laws.specs.Choice.{if_then_else_}
 use Rattle.laws.specs.Chain.{endsIn, firstAlong}
 use Rattle.laws.specs.Onto.{near}
 use Rattle.laws.specs.Order.{Before}
-use Rattle.laws.proofs.Choice.{true-not-false, case-bool, true-of, false-of, bool-same, if-true, if-false, if-cases, and-both, and-left, and-right, and-right-false}
-use Rattle.laws.proofs.Chain.{link-cases, ends-zero, first-along-enough, first-along-here, first-along-next, first-along-zero}
+use Rattle.laws.proofs.Choice.{true-not-false, case-bool, false-of, bool-same, if-true, if-false, if-cases, and-both, and-left, and-right}
+use Rattle.laws.proofs.Chain.{first-along-enough}
 use Rattle.laws.proofs.Onto.{ends-near, first-near, near-same}
 use Rattle.laws.proofs.Order.{before-kept}
 use Rattle.ceiling.specs.Columns.{Columns, sold}
@@ -25,15 +22,15 @@ use Rattle.rules.specs.declared.Setup.{Setup}
 use Rattle.rules.specs.declared.State.{State}
 use Rattle.rules.specs.declared.Outcome.{Outcome}
 use Rattle.rules.specs.Sizes.{maxEntries}
-use Rattle.rules.specs.State.{at, queueOf, isPresent, isBusy, hasPreempted, waitingOf, parentOf}
+use Rattle.rules.specs.State.{at, queueOf, isPresent, isBusy, waitingOf, parentOf}
 use Rattle.rules.specs.SoundFacts.{Sound}
 use Rattle.rules.specs.Reporting.{settled, stays, nearestStaying}
-use Rattle.rules.specs.Tally.{Row, Tally, rowAt, rowOf}
+use Rattle.rules.specs.Tally.{Tally, rowAt, rowOf}
 use Rattle.rules.proofs.Shape.{Shaped}
 use Rattle.rules.proofs.EntryFacts.{present-below}
 use Rattle.rules.proofs.ReportedFacts.{settledBy, reportedBy, ReportLeaves, report-leaves, reported-waiting-le, reported-was-present, left-waiting, reported-queue, stays-are-present, reported-parent}
 use Rattle.rules.proofs.Rows.{row-of-is}
-use Rattle.rules.proofs.Sim.{presentRow, jobLink, Ahead, RowIs, JobIs, Sim}
+use Rattle.rules.proofs.Sim.{presentRow, jobLink, Ahead, JobIs, Sim}
 use Rattle.rules.proofs.SimRows.{row-inside, present-of, present-row-is}
 use Rattle.rules.proofs.SimChain.{up, up-present, parent-up}
 

@@ -1,29 +1,28 @@
 -- The simulation through taking a job.
-use Prim.Native.Nat.{ℕ, zero, suc, _+_, _≤_, _<_}
+use Prim.Native.Nat.{ℕ, zero, suc, _+_, _<_}
 use mathlib.Core.Path.{_≡_, refl, sym, _∙_, ap, subst}
 use mathlib.Core.Logic.{_≢_, _⊎_, inl, inr, ⊎-elim}
-use mathlib.Core.Bool.{Bool, true, false, _&&_}
+use mathlib.Core.Bool.{true, false, _&&_}
 use mathlib.Core.List.{List, [], _∷_, _++_}
 use native.Mathlib.Decide.{ℕ-discrete}
-use native.Mathlib.Nat.{suc-inj, lt-irrefl, lt-of-lt-of-le}
+use native.Mathlib.Nat.{suc-inj, lt-irrefl}
 use native.Mathlib.Omega.{arith}
 use lib.ListN.{length}
 use lib.Dec.{eqb}
-use borrow.Author.Tests.{eq-eqb, ne-eqb}
+use borrow.Author.Tests.{ne-eqb}
 use Rattle.laws.specs.Choice.{if_then_else_}
 use Rattle.laws.specs.Range.{sumTo}
-use Rattle.laws.specs.Chain.{endsIn, firstAlong}
+use Rattle.laws.specs.Chain.{firstAlong}
 use Rattle.laws.specs.Onto.{near}
 use Rattle.laws.specs.Order.{Before}
 use Rattle.laws.specs.Sequence.{holds}
-use Rattle.laws.specs.Update.{upd}
-use Rattle.laws.proofs.Choice.{true-not-false, and-left-false, and-right-false, and-both}
-use Rattle.laws.proofs.Update.{upd-same, upd-other, upd-below}
+use Rattle.laws.proofs.Choice.{true-not-false, and-left-false, and-right-false}
+use Rattle.laws.proofs.Update.{upd-same, upd-below}
 use Rattle.laws.proofs.Sum.{sum-eq}
 use Rattle.laws.proofs.All.{below-suc}
 use Rattle.laws.proofs.Newest.{getD-old, getD-new, length-new}
 use Rattle.laws.proofs.Sequence.{holds-cases}
-use Rattle.laws.proofs.Chain.{link-cases, ends-zero, first-along-zero, first-along-same, first-along-agree, first-along-enough, first-along-ok}
+use Rattle.laws.proofs.Chain.{first-along-zero, first-along-same, first-along-agree, first-along-enough, first-along-ok}
 use Rattle.laws.proofs.Order.{before-append-cases, before-left, before-right}
 use Rattle.ceiling.specs.Columns.{Columns, sold, ofTransport}
 use Rattle.ceiling.specs.Steps.{addRow}
@@ -32,16 +31,16 @@ use Rattle.ceiling.proofs.Ceilings.{names-end}
 use Rattle.ceiling.proofs.Invariant.{inv-add}
 use Rattle.rules.specs.declared.Setup.{Setup}
 use Rattle.rules.specs.declared.State.{State}
-use Rattle.rules.specs.State.{at, queueOf, isPresent, waitingOf, parentOf}
+use Rattle.rules.specs.State.{at, queueOf, isPresent}
 use Rattle.rules.specs.SoundFacts.{Sound}
 use Rattle.rules.specs.Taking.{taken}
 use Rattle.rules.specs.Tally.{Row, Tally, noRow, rowAt, rowOf, countsOn, newRow, withJob}
 use Rattle.rules.proofs.Shape.{Shaped}
-use Rattle.rules.proofs.Taken.{Fits, taken-others, taken-new, taking-leaves, present-other}
+use Rattle.rules.proofs.Taken.{Fits, taken-others, taken-new, present-other}
 use Rattle.rules.proofs.TakenEntries.{taken-waiting-new, taken-waiting-other}
 use Rattle.rules.proofs.TakenLists.{taken-queue, taken-queue-other}
 use Rattle.rules.proofs.Picked.{queue-job}
-use Rattle.rules.proofs.Rows.{row-of-new, row-of-old, row-of-is}
+use Rattle.rules.proofs.Rows.{row-of-new, row-of-old}
 use Rattle.rules.proofs.Sim.{presentRow, jobLink, Ahead, RowIs, JobIs, Sim}
 use Rattle.rules.proofs.SimRows.{row-inside, present-of}
 

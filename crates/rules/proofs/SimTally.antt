@@ -1,21 +1,14 @@
 -- A preemption in the tally's rows, and in the columns.
-use Prim.Native.Nat.{ℕ, zero, suc, _+_, _≤_, _<_, min}
+use Prim.Native.Nat.{ℕ, suc, _+_, _<_}
 use mathlib.Core.Path.{_≡_, refl, sym, _∙_, ap, subst}
-use mathlib.Core.Logic.{_≢_}
-use mathlib.Core.Bool.{Bool, true, false}
 use mathlib.Core.List.{List}
-use native.Mathlib.Decide.{ℕ-discrete}
-use native.Mathlib.Omega.{arith}
 use lib.ListN.{length, length-set}
 use Rattle.laws.specs.Chain.{alongChain}
 use Rattle.laws.specs.Update.{upd}
-use Rattle.laws.proofs.Update.{upd-same, upd-other, at-or-off, upd-all}
+use Rattle.laws.proofs.Update.{upd-all}
 use Rattle.laws.proofs.Chain.{along-keeps, along-related, along-same}
-use Rattle.ceiling.specs.Columns.{Columns}
-use Rattle.ceiling.specs.Steps.{Preempting, preempt, overtake}
-use Rattle.ceiling.proofs.Forest.{Forest}
+use Rattle.ceiling.specs.Steps.{overtake}
 use Rattle.rules.specs.Tally.{Row, rowAt, withNotes, overtakenBy, naming, overtaken}
-use Rattle.rules.proofs.Sim.{RowIs}
 use Rattle.rules.proofs.SimRows.{row-same, row-other, row-field}
 
 -- the rows but for their overtakers and whom they name

@@ -5,17 +5,16 @@ use mathlib.Core.Logic.{_≢_, ⊎-elim}
 use mathlib.Core.Bool.{Bool, true, false, not}
 use mathlib.Core.List.{List}
 use native.Mathlib.Omega.{arith}
-use native.Mathlib.Decide.{decLt}
-use lib.ListN.{length, List·getD-eq-default}
+use lib.ListN.{length}
 use lib.Seq.{getD-set-same, getD-set-other}
 use lib.Dec.{eqb, ltb}
-use borrow.Author.Tests.{ltb-true, ltb-false, lt-ltb, eqb-true, not-true, not-false}
+use borrow.Author.Tests.{ltb-true, ltb-false, eqb-true, not-true, not-false}
 use Rattle.laws.specs.Choice.{if_then_else_}
 use Rattle.laws.specs.Range.{allTo, countTo}
 use Rattle.laws.specs.Sequence.{everyIn}
-use Rattle.laws.proofs.Choice.{true-not-false, and-both, and-left, and-right, and-false-cases, not-is-true}
+use Rattle.laws.proofs.Choice.{true-not-false, and-left, and-right, and-false-cases, not-is-true}
 use Rattle.laws.proofs.All.{all-false-witness}
-use Rattle.laws.proofs.First.{first-holds, first-found, chosen-below, chosen-passes, chosen-place, chosen-at, chosen-rises}
+use Rattle.laws.proofs.First.{first-holds, first-found, chosen-below}
 use Rattle.laws.proofs.Firsts.{firsts-length}
 use Rattle.laws.proofs.Keep.{length-keep-le, every-kept, every-keep}
 use Rattle.laws.proofs.Sequence.{every-getD}
@@ -28,7 +27,7 @@ use Rattle.rules.specs.SoundFacts.{Sound}
 use Rattle.rules.specs.Taking.{isDead, keptOf, nOf, newNumber, freePlaces, newOrder, taken}
 use Rattle.rules.specs.Refusals.{isDestinationOn, lacksNumber, lacksPlaces}
 use Rattle.rules.proofs.Shape.{Shaped, present-length, transport-length, n-length, picked-length, dropped-length, sold-length, parent-length, preempted-length, arrival-length, overtakers-length, turn-length, places-length, order-length}
-use Rattle.rules.proofs.Filled.{amongFirst, among-passes, filled-chosen, with-order-at, with-order-other}
+use Rattle.rules.proofs.Filled.{amongFirst, filled-chosen, with-order-at, with-order-other}
 
 -- a job j with these destinations fits into w, on transport t
 pub record Fits (w : State) (j t : ℕ) (kept : List ℕ) : Type 0 where
@@ -241,28 +240,6 @@ module _ (w : State) (j t : ℕ) (kept : List ℕ) (fits : Fits w j t kept) wher
   unfolding freePlaces
   place-below i l = chosen-below (isFree w) 0 maxEntries i (in-room i l)
 
-  pub place-free : (i : ℕ) → i < length kept → isFree w (at (freePlaces w) i) ≡ true
-  unfolding freePlaces
-  place-free i l = chosen-passes (isFree w) 0 maxEntries i (in-room i l)
-
-  pub place-rises : (i k : ℕ) → i < k → k < length kept → at (freePlaces w) i < at (freePlaces w) k
-  unfolding freePlaces
-  place-rises i k h l = chosen-rises (isFree w) 0 maxEntries i k h (in-room k l)
-
-  pub place-in : (i : ℕ) → i < length kept → placeIn w (at (freePlaces w) i) ≡ i
-  unfolding freePlaces placeIn
-  place-in i l = chosen-place (isFree w) 0 maxEntries i (in-room i l)
-
-  pub place-new : (i : ℕ) → i < length kept → isNew w kept (at (freePlaces w) i) ≡ true
-  unfolding isNew amongFirst placeIn
-  place-new i l =
-      let q = place-in i l in
-      and-both (place-free i l) (lt-ltb (countTo (isFree w) (at (freePlaces w) i)) (length kept) (omega arith))
-
-  pub new-place : (e : ℕ) → e < maxEntries → isNew w kept e ≡ true → at (freePlaces w) (placeIn w e) ≡ e
-  unfolding isNew freePlaces placeIn
-  new-place e l h = chosen-at (isFree w) 0 maxEntries e l (among-passes (isFree w) (length kept) e h)
-
 -- what taking a job leaves alone
 pub record TakingLeaves (w r : State) : Type 0 where
   pub setup : r .setup ≡ w .setup
@@ -272,8 +249,3 @@ pub record TakingLeaves (w r : State) : Type 0 where
   pub destinations : r .destinations ≡ w .destinations
   pub busy : r .busy ≡ w .busy
   pub entryTicket : r .entries .ticket ≡ w .entries .ticket
-
-pub taking-leaves : (w : State) (j t now : ℕ) (kept : List ℕ) → TakingLeaves w (taken w j t now kept)
-unfolding taken
-taking-leaves w j t now kept =
-    record { setup = refl; clock = refl; ticket = refl; turn = refl; destinations = refl; busy = refl; entryTicket = refl }

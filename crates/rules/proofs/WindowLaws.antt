@@ -6,15 +6,14 @@ use native.Mathlib.Nat.{div-le-of-le-mul}
 use native.Mathlib.Omega.{arith}
 use lib.Dec.{eqb, ltb, leb}
 use borrow.Author.Tests.{ltb-true, ltb-false, leb-true, leb-false}
-use Rattle.laws.proofs.Choice.{if-cases, and-left, and-right}
-use Rattle.laws.proofs.Tests.{and-6}
+use Rattle.laws.proofs.Choice.{if-cases}
 use Rattle.rules.specs.declared.Feedback.{Feedback}
 use Rattle.rules.specs.declared.Settings.{Settings}
 use Rattle.rules.specs.declared.Sums.{Sums}
 use Rattle.rules.specs.declared.Health.{Health}
 use Rattle.rules.specs.declared.Health.the-variants.{Live, Dead}
 use Rattle.rules.specs.Sizes.{U}
-use Rattle.rules.specs.Setup.{within, feedbackInRange, slotsInRange, windowsInRange, settingsInRange, firstState}
+use Rattle.rules.specs.Setup.{settingsInRange, firstState}
 use Rattle.rules.specs.SoundFacts.{LiveSound}
 use Rattle.rules.specs.Windows.{cohortBound, feedback, cohortShare, isDeadAt, raised, lowered, liveAfterSuccess, afterSuccess, liveAfterFailure}
 use Rattle.rules.specs.Windows.{afterFailure}

@@ -1,6 +1,5 @@
 -- The paper's number and values for each case of each answer.
-use Prim.Native.Nat.{ℕ}
-use mathlib.Core.List.{List, [], _∷_}
+use mathlib.Core.List.{[], _∷_}
 use Rattle.rules.specs.declared.SetupAnswer.{SetupAnswer}
 use Rattle.rules.specs.declared.SetupAnswer.the-variants
 use Rattle.rules.specs.declared.JobAnswer.{JobAnswer}

@@ -1,7 +1,6 @@
 -- Each call whole: from the state and all arguments, lent buffers' contents among them, to what it answers, the closing state and the closing
 -- buffer; and beside that what the rules decided.
 use Prim.Native.Nat.{ℕ, zero, suc}
-use mathlib.Core.Bool.{Bool, true, false}
 use mathlib.Core.List.{List, [], _∷_, _++_, map}
 use lib.ListN.{length, drop}
 use lib.Dec.{eqb}

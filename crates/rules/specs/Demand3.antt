@@ -1,5 +1,5 @@
 -- Demand 3: small mail may overtake, at a price with a ceiling. One claim about a whole list of calls from an accepted set-up.
-use Prim.Native.Nat.{ℕ, suc, _+_, _-_, _/_, _≤_, _<_}
+use Prim.Native.Nat.{ℕ, _+_, _-_, _/_, _≤_, _<_}
 use mathlib.Core.Path.{_≡_}
 use mathlib.Core.Bool.{true}
 use mathlib.Core.List.{List, [], _∷_, _++_}
@@ -13,10 +13,10 @@ use Rattle.rules.specs.Sound.{sound}
 use Rattle.rules.specs.Windows.{woken}
 use Rattle.rules.specs.Picking.{eligible, finds}
 use Rattle.rules.specs.Refusals.{pickRefusal}
-use Rattle.rules.specs.Calls.{Call, Says, Reply, granted, replyTo}
-use Rattle.rules.specs.Tally.{Row, Tally, rowAt, rowOf, linkedRow}
+use Rattle.rules.specs.Calls.{Call, granted, replyTo}
+use Rattle.rules.specs.Tally.{Row, rowAt, rowOf, linkedRow}
 use Rattle.rules.specs.Run.{stateAfter, tallyOf}
-use Rattle.rules.specs.Ledger.{Account, accountAt, accountsOf, stillWaiting}
+use Rattle.rules.specs.Ledger.{accountAt, accountsOf, stillWaiting}
 
 -- the slot cost of a row's transport
 abbrev pub costFor : Setup → Row → ℕ

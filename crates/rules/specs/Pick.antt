@@ -1,17 +1,13 @@
 -- Document 01, "Picking and preemption": a pick put together, and what it decides. The state here is the one after waking.
 use Prim.Native.Nat.{ℕ, zero, suc, _+_, _%_}
-use mathlib.Core.Bool.{Bool, true, false}
-use mathlib.Core.List.{List, [], _∷_}
-use lib.ListN.{getD, set}
-use Rattle.laws.specs.Choice.{if_then_else_}
+use lib.ListN.{set}
 use Rattle.rules.specs.declared.Busy.{Busy}
 use Rattle.rules.specs.declared.Jobs.{Jobs}
-use Rattle.rules.specs.declared.Entries.{Entries}
 use Rattle.rules.specs.declared.State.{State}
 use Rattle.rules.specs.Sizes.{tickets}
-use Rattle.rules.specs.State.{at, transportOf, destinationOf, waitingOf}
+use Rattle.rules.specs.State.{at, destinationOf, waitingOf}
 use Rattle.rules.specs.Changed.{atTurn, onBusy, onJobs, onEntries, onPicked, onTurn, withKinds}
-use Rattle.rules.specs.Picking.{finds, nextTransport, currentJob, passedOver, nextPlace, nextEntry}
+use Rattle.rules.specs.Picking.{nextTransport, currentJob, passedOver, nextPlace, nextEntry}
 use Rattle.rules.specs.Preemption.{preemptorOf, preempting}
 
 -- who preempted whom with how many waiting

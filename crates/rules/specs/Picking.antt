@@ -1,7 +1,6 @@
 -- Document 01, "Picking and preemption", first part: which transport, which job, which entry. The state here is the one after waking.
-use Prim.Native.Nat.{ℕ, zero, suc, _+_, _%_}
-use mathlib.Core.Bool.{Bool, true, false, _&&_}
-use mathlib.Core.List.{List, [], _∷_}
+use Prim.Native.Nat.{ℕ, _+_, _%_}
+use mathlib.Core.Bool.{Bool, _&&_}
 use lib.Dec.{eqb, ltb}
 use Rattle.laws.specs.Range.{anyTo, firstTo}
 use Rattle.laws.specs.Sequence.{firstOf, upTo, countIn}

@@ -1,8 +1,8 @@
 -- Document 01, "Picking and preemption", second part: when a job preempts the current one, and what that changes.
 use Prim.Native.Nat.{ℕ, zero, suc, _+_, _-_, _*_, _/_, min}
 use mathlib.Core.Bool.{Bool, true, false, not, _&&_}
-use mathlib.Core.List.{List, [], _∷_}
-use lib.ListN.{length, getD, set}
+use mathlib.Core.List.{List}
+use lib.ListN.{length, set}
 use lib.IntN.{ℤ, pos, negsuc, _-ℤ_}
 use lib.Dec.{eqb, ltb, leb}
 use Rattle.laws.specs.Choice.{if_then_else_}
@@ -10,10 +10,9 @@ use Rattle.laws.specs.Range.{foldTo}
 use Rattle.laws.specs.Chain.{alongChain}
 use Rattle.laws.specs.Sequence.{moveBefore}
 use Rattle.rules.specs.declared.Settings.{Settings}
-use Rattle.rules.specs.declared.Jobs.{Jobs}
 use Rattle.rules.specs.declared.State.{State}
 use Rattle.rules.specs.Sizes.{maxJobs, sumLimit}
-use Rattle.rules.specs.State.{at, settingsOf, listOf, listed, queueOf, hasPreempted, waitingOf, parentOf}
+use Rattle.rules.specs.State.{at, settingsOf, listOf, hasPreempted, waitingOf, parentOf}
 use Rattle.rules.specs.Changed.{onQueue, onJobs, onSold, onParent, onPreempted, onOvertakers}
 use Rattle.rules.specs.Picking.{hasEligible}
 

@@ -1,8 +1,8 @@
 -- Document 01, "Windows", last part: what a report does after the destination's step. The state here is the one after waking.
-use Prim.Native.Nat.{ℕ, zero, suc, _+_, _-_}
-use mathlib.Core.Bool.{Bool, true, false, not, _&&_}
-use mathlib.Core.List.{List, [], _∷_}
-use lib.ListN.{getD, set, length}
+use Prim.Native.Nat.{ℕ, _+_, _-_}
+use mathlib.Core.Bool.{Bool, not, _&&_}
+use mathlib.Core.List.{List}
+use lib.ListN.{set}
 use lib.Dec.{eqb}
 use Rattle.laws.specs.Choice.{if_then_else_}
 use Rattle.laws.specs.Range.{anyTo, countTo, chosenTo, tableTo}
@@ -10,13 +10,10 @@ use Rattle.laws.specs.Chain.{firstAlong}
 use Rattle.laws.specs.Sequence.{keep}
 use Rattle.rules.specs.declared.Health.{Health}
 use Rattle.rules.specs.declared.Busy.{Busy}
-use Rattle.rules.specs.declared.Destination.{Destination}
-use Rattle.rules.specs.declared.Jobs.{Jobs}
-use Rattle.rules.specs.declared.Entries.{Entries}
 use Rattle.rules.specs.declared.State.{State}
 use Rattle.rules.specs.declared.Outcome.{Outcome}
 use Rattle.rules.specs.Sizes.{maxJobs, maxEntries}
-use Rattle.rules.specs.State.{at, transportOf, settingsFor, healthOf, isLive, listOf, listed, queueOf, isWaiting, jobOf, destinationOf, isPresent}
+use Rattle.rules.specs.State.{at, transportOf, settingsFor, healthOf, isLive, isWaiting, jobOf, destinationOf, isPresent}
 use Rattle.rules.specs.State.{usedOf, parentOf}
 use Rattle.rules.specs.Changed.{onDestinations, onBusy, onQueue, onArrivals, onJobs, onEntries, onPresent, onDropped, onParent, withKinds}
 use Rattle.rules.specs.Windows.{afterReport}

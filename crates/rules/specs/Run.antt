@@ -1,10 +1,9 @@
 -- A list of calls, run by the rules from the state of a set-up: "each later one the state as the call before left it".
-use Prim.Native.Nat.{ℕ}
 use mathlib.Core.List.{List, [], _∷_, _++_, foldl}
 use Rattle.rules.specs.declared.Setup.{Setup}
 use Rattle.rules.specs.declared.State.{State}
 use Rattle.rules.specs.Setup.{freshState}
-use Rattle.rules.specs.Calls.{Says, Reply, Call, Decision, replyTo, decisionsOn}
+use Rattle.rules.specs.Calls.{Reply, Call, Decision, replyTo, decisionsOn}
 use Rattle.rules.specs.Tally.{Tally, noTally, tallied}
 
 -- the state after these calls

@@ -1,10 +1,9 @@
 -- Document 01, "Refusal numbers", "Sound means": each clause a test, in its order.
 use Prim.Native.Nat.{ℕ, zero, suc, _+_, _*_}
 use mathlib.Core.Bool.{Bool, true, false, not, _&&_, _||_}
-use mathlib.Core.List.{List, [], _∷_}
-use lib.ListN.{getD, take}
+use mathlib.Core.List.{List}
+use lib.ListN.{getD}
 use lib.Dec.{eqb, ltb, leb}
-use Rattle.laws.specs.Choice.{if_then_else_}
 use Rattle.laws.specs.Range.{allTo, anyTo, countTo, tableTo}
 use Rattle.laws.specs.Chain.{endsIn}
 use Rattle.laws.specs.Sequence.{holds, timesIn, everyIn, holdsEachOnce, neverFalling}
@@ -15,7 +14,7 @@ use Rattle.rules.specs.declared.Health.the-variants.{Live, Dead}
 use Rattle.rules.specs.declared.State.{State}
 use Rattle.rules.specs.Sizes.{U, sumLimit, maxDestinations, maxJobs, maxEntries, maxLength}
 use Rattle.rules.specs.State.{at, settingsOf, transportOf, settingsFor, healthOf, zeroList, listOf, queueOf, isFree, isWaiting, isBusy, jobOf}
-use Rattle.rules.specs.State.{destinationOf, isPresent, hasPreempted, waitsOf, busyOf, usedOf, waitingOf, orderAt, parentOf}
+use Rattle.rules.specs.State.{destinationOf, isPresent, hasPreempted, busyOf, usedOf, waitingOf, orderAt, parentOf}
 use Rattle.rules.specs.Setup.{within, setupInRange}
 use Rattle.rules.specs.Windows.{cohortBound}
 

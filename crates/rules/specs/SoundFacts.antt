@@ -2,16 +2,14 @@
 use Prim.Native.Nat.{ℕ, suc, _+_, _*_, _≤_, _<_}
 use mathlib.Core.Path.{_≡_}
 use mathlib.Core.Logic.{_⊎_, _≢_}
-use mathlib.Core.Bool.{Bool, true, false, _&&_}
+use mathlib.Core.Bool.{true, false}
 use lib.ListN.{getD}
-use lib.Dec.{eqb}
 use Rattle.laws.specs.Range.{anyTo, countTo}
 use Rattle.laws.specs.Chain.{endsIn}
 use Rattle.laws.specs.Sequence.{holds, timesIn, holdsEachOnce, neverFalling}
 use Rattle.rules.specs.declared.Settings.{Settings}
 use Rattle.rules.specs.declared.Setup.{Setup}
 use Rattle.rules.specs.declared.Sums.{Sums}
-use Rattle.rules.specs.declared.Health.{Health}
 use Rattle.rules.specs.declared.Health.the-variants.{Live, Dead}
 use Rattle.rules.specs.declared.State.{State}
 use Rattle.rules.specs.Sizes.{U, sumLimit, maxTransports, maxDestinations, maxJobs, maxEntries, maxLength}

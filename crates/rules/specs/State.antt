@@ -1,10 +1,10 @@
 -- Reading a state: the names under which the rules speak of its columns.
-use Prim.Native.Nat.{ℕ, zero, suc, _+_, _*_}
+use Prim.Native.Nat.{ℕ, _+_, _*_}
 use mathlib.Core.Bool.{Bool, true, false, not, _&&_}
-use mathlib.Core.List.{List, [], _∷_, _++_}
-use lib.ListN.{length, getD, take, drop}
-use lib.Dec.{eqb, ltb}
-use Rattle.laws.specs.Range.{countTo, anyTo}
+use mathlib.Core.List.{List, []}
+use lib.ListN.{length, getD, take}
+use lib.Dec.{eqb}
+use Rattle.laws.specs.Range.{countTo}
 use Rattle.laws.specs.Sequence.{padded}
 use Rattle.rules.specs.declared.Feedback.{Feedback}
 use Rattle.rules.specs.declared.Settings.{Settings}

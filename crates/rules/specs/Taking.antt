@@ -1,12 +1,10 @@
 -- Document 01, "Time and tickets", second part: what a new job becomes. The state here is the one after waking.
-use Prim.Native.Nat.{ℕ, zero, suc, _+_, _*_}
+use Prim.Native.Nat.{ℕ, _+_, _*_}
 use mathlib.Core.Bool.{Bool, true, false, not}
 use mathlib.Core.List.{List, [], _∷_, _++_}
-use lib.ListN.{length, getD, take, drop, set}
-use lib.Dec.{eqb}
+use lib.ListN.{length, take, drop, set}
 use Rattle.laws.specs.Range.{firstTo, chosenTo, foldTo}
 use Rattle.laws.specs.Sequence.{keep, padded, firstsTo}
-use Rattle.rules.specs.declared.JobList.{JobList}
 use Rattle.rules.specs.declared.Jobs.{Jobs}
 use Rattle.rules.specs.declared.Entries.{Entries}
 use Rattle.rules.specs.declared.State.{State}
