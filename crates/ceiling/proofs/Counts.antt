@@ -28,7 +28,9 @@ module _ {g : Columns} (w : Low g) (c : Counts g) where
   pub counts-add : (t k : ℕ) → Counts (addRow g t k)
   counts-add t k = record {
     counted = λ u. c .counted u ∙ sym (sum-grow _ _ (g .rows) (λ i l. simp upd-below) (rw (upd-same (g .picked)) (if-same _ 0)));
-    behind = at-or-off _ (g .rows) (λ l q. le-trans (le-of-eq (sum-if-zero _ _ (suc (g .rows)) new)) zero-le) (λ j h l q. rw (beyond-add j (omega arith)) (simp upd-other (c .behind j (omega arith) (simp upd-other at q))));
+    behind =
+        at-or-off _ (g .rows) (λ l q. le-trans (le-of-eq (sum-if-zero _ _ (suc (g .rows)) new)) zero-le)
+        (λ j h l q. rw (beyond-add j (omega arith)) (simp upd-other (c .behind j (omega arith) (simp upd-other at q))));
     bounded = at-or-off _ (g .rows) (λ l. simp upd-same (omega arith)) (λ j h l. simp upd-other (c .bounded j (omega arith)));
     sums = at-or-off _ (g .rows) (λ l. simp (upd-same, sum-suc, own) (omega (arith, if-true k 0 (eq-eqb t t refl)))) (λ j h l. simp upd-other (c .sums j (omega arith) ∙ older j (omega arith)));
   }
@@ -84,7 +86,8 @@ module _ {g : Columns} (w : Low g) (c : Counts g) where
 
         passed : (j : ℕ) → j < g .rows → (b : Bool) → by j ≡ b → g .blocked j + one b ≤ (pick g x k by) .total (g .transport j)
         passed j l true e = let b = c .bounded j l in let s = p .same j l e in rw (s, upd-same) (omega (arith, p .some j l e, rw s at b))
-        passed j l false e = omega (arith, c .bounded j l, upd-all (λ t v. g .total t ≤ v) (g .total) (g .transport x) (g .total (g .transport x) + k) (omega arith) (λ t h. le-refl _) (g .transport j))
+        passed j l false e =
+            omega (arith, c .bounded j l, upd-all (λ t v. g .total t ≤ v) (g .total) (g .transport x) (g .total (g .transport x) + k) (omega arith) (λ t h. le-refl _) (g .transport j))
 
   pub counts-lessen : (v : ℕ → ℕ) → ((r : ℕ) → r < g .rows → v r ≤ g .waiting r) → Counts (lessen g v)
   counts-lessen v h = record { counted = c .counted; behind = λ j l q. c .behind j l (le-trans q (h j l)); bounded = c .bounded; sums = c .sums }

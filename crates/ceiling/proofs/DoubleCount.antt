@@ -121,7 +121,8 @@ module _ {cost : ℕ → ℕ} {g : Columns} (f : Forest cost g) (w : Low g) (j :
       each r l = if-cases (λ v. v ≤ sumTo (λ y. share r y) (g .rows)) _ (λ e. one-share (later-names r l e)) (λ e. omega arith)
         where
           one-share : (y : ℕ) × (g .names r ≡ suc y) × (near g j y ≡ true) → g .cap r ≤ sumTo (λ y. share r y) (g .rows)
-          one-share (y, e, q) = omega (arith, sum-term (λ y. share r y) y (g .rows) (f .named r y l e .inside), if-true (if eqb (g .names r) (suc y) then g .cap r else 0) 0 q, if-true (g .cap r) 0 (eq-eqb _ _ e))
+          one-share (y, e, q) =
+              omega (arith, sum-term (λ y. share r y) y (g .rows) (f .named r y l e .inside), if-true (if eqb (g .names r) (suc y) then g .cap r else 0) 0 q, if-true (g .cap r) 0 (eq-eqb _ _ e))
 
   sold-near : cost (g .transport j) * nearSold g j ≤ nearCap g j
   sold-near = rw (← sum-mul) (sum-le _ _ (g .rows) (λ y l. scaled (near g j y) _ _ _ (λ e. rw (sym (near-true g j y e .0)) (f .paid y l))))
@@ -134,6 +135,14 @@ module _ {cost : ℕ → ℕ} {g : Columns} (f : Forest cost g) (w : Low g) (j :
 
   pub count-ceiling : (b : ℕ) → beyond g j ≤ b → Ceiling (cost (g .transport j)) (ofTransport g (g .transport j) (g .picked) (g .rows)) (ofTransport g (g .transport j) (g .n) (suc j)) b
   count-ceiling b h = record {
-    dear = λ d. omega (arith, picked-near, near-later, div-ceiling (cost (g .transport j)) (laterCap g j) (ofTransport g (g .transport j) (g .n) (suc j)) d (omega (arith, near-later, sold-near, mul-le-mul-left (cost (g .transport j)) later-sold)));
+    dear =
+        λ d.
+        omega (
+          arith,
+          picked-near,
+          near-later,
+          div-ceiling (cost (g .transport j)) (laterCap g j) (ofTransport g (g .transport j) (g .n) (suc j)) d
+              (omega (arith, near-later, sold-near, mul-le-mul-left (cost (g .transport j)) later-sold)),
+        );
     free = λ z. omega (arith, picked-near, near-later, later-none z);
   }

@@ -32,7 +32,9 @@ pub record Forest (cost : ℕ → ℕ) (g : Columns) : Type 0 where
   pub deep : (r : ℕ) → r < g .rows → g .depth r ≤ namers g
 
 -- row x, which named nobody, names y now: v' at x is added to what y's namers have
-pub named-sum : (names v v' : ℕ → ℕ) (x y rows : ℕ) → x < rows → names x ≡ 0 → ((i : ℕ) → i ≢ x → v' i ≡ v i) → (z : ℕ) → sumTo (λ r. if eqb (upd names x (suc y) r) (suc z) then v' r else 0) rows ≡ sumTo (λ r. if eqb (names r) (suc z) then v r else 0) rows + (if eqb (suc y) (suc z) then v' x else 0)
+pub named-sum : (names v v' : ℕ → ℕ) (x y rows : ℕ) → x < rows → names x ≡ 0 → ((i : ℕ) → i ≢ x → v' i ≡ v i) → (z : ℕ)
+    → sumTo (λ r. if eqb (upd names x (suc y) r) (suc z) then v' r else 0) rows
+    ≡ sumTo (λ r. if eqb (names r) (suc z) then v r else 0) rows + (if eqb (suc y) (suc z) then v' x else 0)
 named-sum names v v' x y rows l e h z =
     let c = sum-change (λ r. if eqb (names r) (suc z) then v r else 0) (λ r. if eqb (upd names x (suc y) r) (suc z) then v' r else 0) x rows l (λ i k o. rw (upd-other names x (suc y) i o, h i o)) in
     let old = if-false (v x) 0 (ne-eqb (names x) (suc z) (omega arith)) in

@@ -35,4 +35,6 @@ module _ {cost : ℕ → ℕ} {g : Columns} (n : Noted cost g) where
       low = record { alone = w .alone; under = w .under }
 
       own : Ceiling (cost (g .transport x)) (suc (g .picks (g .transport x))) (g .upto x) (g .blocked x)
-      own = rw (sym (upd-same (g .picks) (g .transport x) (suc (g .picks (g .transport x)))) ∙ after .counted (g .transport x), after .sums x (p .inside)) (count-ceiling (forest-pick f p) low x (g .blocked x) (beyond-pick-self w c p))
+      own =
+          rw (sym (upd-same (g .picks) (g .transport x) (suc (g .picks (g .transport x)))) ∙ after .counted (g .transport x), after .sums x (p .inside))
+          (count-ceiling (forest-pick f p) low x (g .blocked x) (beyond-pick-self w c p))

@@ -40,7 +40,8 @@ module _ {cost : ℕ → ℕ} {g : Columns} (f : Forest cost g) where
   module _ (over : ℕ → ℕ) (o : Overtaken cost g over) where
     -- what y's namers have bought is paid for by y and by themselves
     bought-paid : (y : ℕ) → y < g .rows → cost (g .transport y) * bought g over y ≤ g .cap y + bought g over y
-    bought-paid y l = omega (arith, sum-mul c all (g .rows), sum-le (λ r. c * all r) (λ r. c * part r + all r) (g .rows) each, sum-add (λ r. c * part r) all (g .rows), sum-mul c part (g .rows), f .paid y l)
+    bought-paid y l =
+        omega (arith, sum-mul c all (g .rows), sum-le (λ r. c * all r) (λ r. c * part r + all r) (g .rows) each, sum-add (λ r. c * part r) all (g .rows), sum-mul c part (g .rows), f .paid y l)
       where
         c : ℕ
         c = cost (g .transport y)
@@ -62,7 +63,8 @@ module _ {cost : ℕ → ℕ} {g : Columns} (f : Forest cost g) where
       bought-named : (y : ℕ) → g .names z ≡ suc y → bought g (overtake m z over) y ≡ bought g over y + m
       bought-named y e =
           let t = eq-eqb (g .names z) (suc y) e in
-          let c = sum-change (λ r. if eqb (g .names r) (suc y) then g .cap r + over r else 0) (λ r. if eqb (g .names r) (suc y) then g .cap r + overtake m z over r else 0) z (g .rows) l (λ i k q. rw (upd-other over z (over z + m) i q)) in
+          let c = sum-change (λ r. if eqb (g .names r) (suc y) then g .cap r + over r else 0)
+          (λ r. if eqb (g .names r) (suc y) then g .cap r + overtake m z over r else 0) z (g .rows) l (λ i k q. rw (upd-other over z (over z + m) i q)) in
           omega (arith, simp (upd-same, if-true) at c)
 
       overtaken-more : Overtaken cost g (overtake m z over)
@@ -77,7 +79,8 @@ module _ {cost : ℕ → ℕ} {g : Columns} (f : Forest cost g) where
           let u = upd-all (λ y v. y < g .rows → v ≤ bought g over y) over z (over z + m) (λ k. h) (λ y q k. o .sums y k) y i in
           (i, rw (bought-named y e) (omega arith))
 
-  walk : (m n link : ℕ) (over : ℕ → ℕ) → Overtaken cost g over → ((z : ℕ) → link ≡ suc z → (z < g .rows) × (over z + m ≤ bought g over z)) → Overtaken cost g (alongChain (g .names) (overtake m) n link over)
+  walk : (m n link : ℕ) (over : ℕ → ℕ) → Overtaken cost g over → ((z : ℕ) → link ≡ suc z → (z < g .rows) × (over z + m ≤ bought g over z))
+      → Overtaken cost g (alongChain (g .names) (overtake m) n link over)
   unfolding alongChain
   walk m zero link over o h = o
   walk m (suc n) zero over o h = o
@@ -96,7 +99,8 @@ module _ {cost : ℕ → ℕ} {g : Columns} (f : Forest cost g) (o : Overtaken c
       bought-add y = sum-grow _ _ (g .rows) (λ i l. simp upd-below) (if-false _ _ (simp upd-same (ne-eqb 0 (suc y) (omega arith))))
 
   pub overtaken-preempt : {x y m : ℕ} → Preempting cost g x y m → Overtaken cost (preempt g x y m) ((preempt g x y m) .over)
-  overtaken-preempt {x} {y} {m} p = walk (forest-preempt f p) m (g .rows) (suc y) (g .over) start (λ z e. subst (λ z. (z < g .rows) × (g .over z + m ≤ bought (preempt g x y m) (g .over) z)) (suc-inj e) (p .other, room))
+  overtaken-preempt {x} {y} {m} p =
+      walk (forest-preempt f p) m (g .rows) (suc y) (g .over) start (λ z e. subst (λ z. (z < g .rows) × (g .over z + m ≤ bought (preempt g x y m) (g .over) z)) (suc-inj e) (p .other, room))
     where
       bought-preempt : (z : ℕ) → bought (preempt g x y m) (g .over) z ≡ bought g (g .over) z + (if eqb (suc y) (suc z) then upd (g .cap) x m x + g .over x else 0)
       bought-preempt = named-sum (g .names) (λ r. g .cap r + g .over r) (λ r. upd (g .cap) x m r + g .over r) x y (g .rows) (p .inside) (p .unnaming) (λ i h. rw (upd-other (g .cap) x m i h))
@@ -118,7 +122,8 @@ module _ {cost : ℕ → ℕ} {g : Columns} (f : Forest cost g) (o : Overtaken c
   unfolding alongChain
   over-preempt {x} {y} {m} p = same (g .rows) (suc y) (g .over) (λ z e. subst (λ z. (z < g .rows) × (z ≢ x)) (suc-inj e) (p .other, used-other f p y (p .used)))
     where
-      same : (n link : ℕ) (over : ℕ → ℕ) → ((z : ℕ) → link ≡ suc z → (z < g .rows) × (z ≢ x)) → alongChain (upd (g .names) x (suc y)) (overtake m) n link over ≡ alongChain (g .names) (overtake m) n link over
+      same : (n link : ℕ) (over : ℕ → ℕ) → ((z : ℕ) → link ≡ suc z → (z < g .rows) × (z ≢ x))
+          → alongChain (upd (g .names) x (suc y)) (overtake m) n link over ≡ alongChain (g .names) (overtake m) n link over
       same zero link over h = refl
       same (suc n) zero over h = refl
       same (suc n) (suc z) over h =

@@ -12,7 +12,8 @@ use lib.Seq.{take-append-seam, set-append-seam}
 use borrow.Author.Tests.{eqb-true, eqb-false, ne-eqb, ltb-true, lt-ltb}
 use Rattle.laws.specs.Choice.{one}
 use Rattle.laws.specs.Sequence.{holds, timesIn, everyIn, countIn, padded}
-use Rattle.laws.proofs.Choice.{true-not-false, case-bool, bool-same, false-of, and-both, and-left, and-right, or-left, or-right, or-cases, or-left-false, or-right-false, one-true, one-false, one-le, eqb-self}
+use Rattle.laws.proofs.Choice.{true-not-false, case-bool, bool-same, false-of, and-both, and-left, and-right, or-left, or-right, or-cases}
+use Rattle.laws.proofs.Choice.{or-left-false, or-right-false, one-true, one-false, one-le, eqb-self}
 use Rattle.laws.proofs.Columns.{getD-repeated}
 
 -- x occurs

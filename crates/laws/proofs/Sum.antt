@@ -86,7 +86,10 @@ sum-fits f i n sum most l e h = omega (arith, e, sum-suc f i, sum-more f (suc i)
 pub sum-change : (f g : ℕ → ℕ) (j n : ℕ) → j < n → ((i : ℕ) → i < n → i ≢ j → g i ≡ f i) → sumTo g n + f j ≡ sumTo f n + g j
 unfolding sumTo
 sum-change f g j zero l h = omega arith
-sum-change f g j (suc n) l h = elim (ℕ-discrete n j) [ yes e ↦ omega (arith, ap f e, ap g e, sum-eq g f n (λ i k. h i (omega arith) (omega arith))) | no p ↦ omega (arith, sum-change f g j n (omega arith) (λ i k. h i (omega arith)), h n (omega arith) p) ]
+sum-change f g j (suc n) l h = elim (ℕ-discrete n j) [
+  | yes e ↦ omega (arith, ap f e, ap g e, sum-eq g f n (λ i k. h i (omega arith) (omega arith)))
+  | no p ↦ omega (arith, sum-change f g j n (omega arith) (λ i k. h i (omega arith)), h n (omega arith) p)
+]
 
 -- parts that count only where a test holds
 pub sum-if-le : (p q : ℕ → Bool) (f g : ℕ → ℕ) (n : ℕ) → ((i : ℕ) → i < n → p i ≡ true → (q i ≡ true) × (f i ≤ g i)) → sumTo (λ i. if p i then f i else 0) n ≤ sumTo (λ i. if q i then g i else 0) n
@@ -105,7 +108,12 @@ sum-if-all false f n = sum-zero _ n (λ i l. refl)
 pub sum-below : (f : ℕ → ℕ) (m n : ℕ) → sumTo (λ i. if ltb i m then f i else 0) n ≤ sumTo f m
 unfolding sumTo
 sum-below f m zero = omega arith
-sum-below f m (suc n) = elim (decLt n m) [ yes l ↦ le-trans (sum-le _ f (suc n) (λ i k. if-cases (λ v. v ≤ f i) (ltb i m) {x = f i} {y = 0} (λ e. le-refl (f i)) (λ e. omega arith))) (sum-more f (suc n) m l) | no h ↦ omega (arith, sum-below f m n, if-false (f n) 0 (le-ltb n m (omega arith))) ]
+sum-below f m (suc n) = elim (decLt n m) [
+  | yes l ↦
+      le-trans (sum-le _ f (suc n) (λ i k. if-cases (λ v. v ≤ f i) (ltb i m) {x = f i} {y = 0} (λ e. le-refl (f i)) (λ e. omega arith)))
+      (sum-more f (suc n) m l)
+  | no h ↦ omega (arith, sum-below f m n, if-false (f n) 0 (le-ltb n m (omega arith)))
+]
 
 -- one part grows by 1, and counts where its test holds
 pub sum-if-suc : (p : ℕ → Bool) (f : ℕ → ℕ) (j n : ℕ) → j < n → sumTo (λ i. if p i then upd f j (suc (f j)) i else 0) n ≡ sumTo (λ i. if p i then f i else 0) n + one (p j)

@@ -20,8 +20,8 @@ use Rattle.rules.specs.State.{isPresent, waitingOf}
 use Rattle.rules.specs.Ledger.{Account, noAccount, accountAt, accountOf, booked, stillWaiting}
 
 -- account i is the one of a present job
-unfoldable pub isOpen : State → List Account → ℕ → Bool
-isOpen s l i = isPresent s (accountAt l i .job) && eqb (accountOf l (accountAt l i .job)) (suc i)
+unfoldable pub openAccount : State → List Account → ℕ → Bool
+openAccount s l i = isPresent s (accountAt l i .job) && eqb (accountOf l (accountAt l i .job)) (suc i)
 
 pub record Books (s : State) (l : List Account) : Type 0 where
   pub balance : (i : ℕ) → i < length l → accountAt l i .taken ≡ accountAt l i .picked + accountAt l i .putoff + stillWaiting s l i
@@ -31,12 +31,12 @@ pub no-books : (s : State) → ((j : ℕ) → isPresent s j ≡ false) → Books
 no-books s h = record { balance = λ i l. absurd (not-suc-le-zero l); entered = λ j p. true-not-false p (h j) }
 
 module _ (s : State) (l : List Account) where
-  pub open-waits : (i : ℕ) → isOpen s l i ≡ true → stillWaiting s l i ≡ waitingOf s (accountAt l i .job)
-  unfolding isOpen stillWaiting
+  pub open-waits : (i : ℕ) → openAccount s l i ≡ true → stillWaiting s l i ≡ waitingOf s (accountAt l i .job)
+  unfolding openAccount stillWaiting
   open-waits i h = if-true _ _ h
 
-  pub open-of : (j i : ℕ) → isPresent s j ≡ true → accountOf l j ≡ suc i → isOpen s l i ≡ true
-  unfolding isOpen accountOf
+  pub open-of : (j i : ℕ) → isPresent s j ≡ true → accountOf l j ≡ suc i → openAccount s l i ≡ true
+  unfolding openAccount accountOf
   open-of j i h e =
       let q = newest-is (λ a. a .job) noAccount l j i e .1 in
       and-both (ap (isPresent s) q ∙ h) (eq-eqb _ (suc i) (ap (accountOf l) q ∙ e))

@@ -91,7 +91,8 @@ module _ (w : State) (t j place e : ℕ) (shape : Shaped w) (h : Sound w) (can :
   kept-busy-destination : (d : ℕ) → d < w .setup .destinations → at (handedOut w t j place e .busy .destination) d ≡ countTo (busyTo (handedOut w t j place e) d) maxEntries
   unfolding handedOut
   kept-busy-destination =
-      set-all (λ d v. d < w .setup .destinations → v ≡ countTo (busyTo (handedOut w t j place e) d) maxEntries) (w .busy .destination) (destinationOf w e) (at (w .busy .destination) (destinationOf w e) + 1) 0
+      set-all (λ d v. d < w .setup .destinations → v ≡ countTo (busyTo (handedOut w t j place e) d) maxEntries) (w .busy .destination) (destinationOf w e)
+      (at (w .busy .destination) (destinationOf w e) + 1) 0
       (omega (arith, shape .busy .destination, h .setup .destinations .1, used-entry .destination))
       (λ l. omega (arith, h .busyDestination (destinationOf w e) l, handed-busy-to w t j place e shape can (destinationOf w e), one-true (eq-eqb (destinationOf w e) (destinationOf w e) refl)))
       (λ d ne l. omega (arith, h .busyDestination d l, handed-busy-to w t j place e shape can d, one-false (ne-eqb (destinationOf w e) d (λ q. ne (sym q)))))
@@ -102,7 +103,11 @@ module _ (w : State) (t j place e : ℕ) (shape : Shaped w) (h : Sound w) (can :
       let k = h .destinations d l in
       record {
         live = k .live;
-        dead = λ end q i m a. k .dead end q i m (sym (handed-waiting-other w t j place e shape can i (λ z. true-not-false (subst (λ z. isWaiting (handedOut w t j place e) z ≡ true) z a) (handed-waiting-here w t j place e shape can))) ∙ a);
+        dead =
+            λ end q i m a.
+            k .dead end q i m
+            (sym (handed-waiting-other w t j place e shape can i
+            (λ z. true-not-false (subst (λ z. isWaiting (handedOut w t j place e) z ≡ true) z a) (handed-waiting-here w t j place e shape can))) ∙ a);
       }
 
   -- Jobs.

@@ -87,7 +87,8 @@ module _ (w : State) (now t y x : ℕ) (shape : Shaped w) (h : Sound w) (lt : t 
   new-child : (j : ℕ) → isPresent w j ≡ true → (p : ℕ) → newParent w x y j ≡ suc p → ChildOf (preempting w t x y (waitingOf w x)) j p
   unfolding preempting
   new-child =
-      set-all (λ j v. isPresent w j ≡ true → (p : ℕ) → v ≡ suc p → ChildOf (preempting w t x y (waitingOf w x)) j p) (w .jobs .parent) x (suc y) 0 (omega (arith, parent-length (shape .jobs), pre .below))
+      set-all (λ j v. isPresent w j ≡ true → (p : ℕ) → v ≡ suc p → ChildOf (preempting w t x y (waitingOf w x)) j p) (w .jobs .parent) x (suc y) 0
+      (omega (arith, parent-length (shape .jobs), pre .below))
       (λ k p e. subst (ChildOf (preempting w t x y (waitingOf w x)) x) (suc-inj e)
       (record {
         present = cur .present;

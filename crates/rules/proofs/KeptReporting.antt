@@ -1,4 +1,4 @@
--- A report keeps the shape and the soundness of a state; and what it does to jobs, lists and parents.
+-- A report keeps shape and soundness.
 use Prim.Native.Nat.{ℕ, _<_}
 use mathlib.Core.Path.{_≡_, refl, ap}
 use mathlib.Core.Logic.{_⊎_, inl, inr, ⊎-elim}
@@ -18,6 +18,7 @@ use Rattle.rules.specs.Windows.{afterSuccess, afterFailure, afterReport}
 use Rattle.rules.specs.Reporting.{reportedHealth, dies, settled, reportedAt, reporting}
 use Rattle.rules.proofs.Shape.{Shaped}
 use Rattle.rules.proofs.WindowLaws.{live-success, live-failure}
+use Rattle.rules.proofs.Settled.{freed}
 use Rattle.rules.proofs.SettledCounts.{reported-entry, reported-transport}
 use Rattle.rules.proofs.KeptSettling.{Stepped, shaped-settled, sound-settled}
 use Rattle.rules.proofs.KeptDeparting.{shaped-departed, sound-departed}
@@ -55,7 +56,7 @@ module _ (w : State) (now d : ℕ) (sound : Sound w) (inside : d < w .setup .des
       }
 
 module _ (w : State) (e : ℕ) (health : Health) (died : Bool) (shaped : Shaped w) (sound : Sound w) (inside : e < maxEntries) (busy : isBusy w e ≡ true) where
-  home : transportOf w (destinationOf w e) < (settled w e (destinationOf w e) health died) .setup .transports
+  home : transportOf w (destinationOf w e) < (freed w e health died) .setup .transports
   unfolding settled
   home = reported-transport w e health died shaped sound inside busy
 
@@ -64,7 +65,7 @@ module _ (w : State) (e : ℕ) (health : Health) (died : Bool) (shaped : Shaped 
   kept-reported-at step =
       let a = sound-settled w e health died shaped sound inside busy step in
       let s = shaped-settled w e health died shaped sound inside busy in
-      (shaped-departed (settled w e (destinationOf w e) health died) (transportOf w (destinationOf w e)) s a home, sound-departed (settled w e (destinationOf w e) health died) (transportOf w (destinationOf w e)) s a home)
+      (shaped-departed (freed w e health died) (transportOf w (destinationOf w e)) s a home, sound-departed (freed w e health died) (transportOf w (destinationOf w e)) s a home)
 
 pub kept-reporting : (w : State) (now e : ℕ) (outcome : Outcome) → Shaped w → Sound w → e < maxEntries → isBusy w e ≡ true
     → Shaped (reporting w now e (destinationOf w e) outcome .state) × Sound (reporting w now e (destinationOf w e) outcome .state)

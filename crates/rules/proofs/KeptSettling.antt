@@ -26,7 +26,7 @@ use Rattle.rules.specs.SoundFacts.{EntrySound, QueueSound, ArrivalsSound
 use Rattle.rules.specs.Reporting.{isPutOff, putOffOf, kindAfter, settled}
 use Rattle.rules.proofs.Shape.{Shaped, dropped-length}
 use Rattle.rules.proofs.EntryTests.{waiting-used, used-job, used-not-free, same-free, same-waiting, same-busy, same-used}
-use Rattle.rules.proofs.Settled.{put-off-of, put-off-destination, settled-entry, settled-used-same, settled-used, settled-waiting}
+use Rattle.rules.proofs.Settled.{freed, put-off-of, put-off-destination, settled-entry, settled-used-same, settled-used, settled-waiting}
 use Rattle.rules.proofs.SettledCounts.{reported-entry, settled-busy-of, settled-busy-destination, settled-busy-transport}
 
 -- what a destination's step has to give
@@ -37,7 +37,7 @@ pub record Stepped (w : State) (d : ℕ) (health : Health) (died : Bool) : Type 
 module _ (w : State) (e : ℕ) (health : Health) (died : Bool) (shaped : Shaped w) (sound : Sound w) (inside : e < maxEntries) (busy : isBusy w e ≡ true) where
   -- Shape.
 
-  pub shaped-settled : Shaped (settled w e (destinationOf w e) health died)
+  pub shaped-settled : Shaped (freed w e health died)
   unfolding settled
   shaped-settled =
       record {
@@ -67,13 +67,13 @@ module _ (w : State) (e : ℕ) (health : Health) (died : Bool) (shaped : Shaped 
 
   -- Entries.
 
-  pub settled-entries : (i : ℕ) → i < maxEntries → isFree (settled w e (destinationOf w e) health died) i ≡ false → EntrySound (settled w e (destinationOf w e) health died) i
+  pub settled-entries : (i : ℕ) → i < maxEntries → isFree (freed w e health died) i ≡ false → EntrySound (freed w e health died) i
   unfolding settled
   settled-entries i l f =
       let r = settled-used-same w e health died shaped sound inside busy i l f .2 in
-      let h = sound .entries i l (sym (same-free w (settled w e (destinationOf w e) health died) i r) ∙ f) in
+      let h = sound .entries i l (sym (same-free w (freed w e health died) i r) ∙ f) in
       record {
-        kind = ⊎-elim (λ k. inl (same-waiting w (settled w e (destinationOf w e) health died) i r ∙ k)) (λ k. inr (same-busy w (settled w e (destinationOf w e) health died) i r ∙ k)) (h .kind);
+        kind = ⊎-elim (λ k. inl (same-waiting w (freed w e health died) i r ∙ k)) (λ k. inr (same-busy w (freed w e health died) i r ∙ k)) (h .kind);
         present = h .present;
         destination = h .destination;
         transport = h .transport;
@@ -81,35 +81,35 @@ module _ (w : State) (e : ℕ) (health : Health) (died : Bool) (shaped : Shaped 
 
   -- Lists.
 
-  queue-settled : (t : ℕ) → QueueSound w t → QueueSound (settled w e (destinationOf w e) health died) t
+  queue-settled : (t : ℕ) → QueueSound w t → QueueSound (freed w e health died) t
   unfolding settled isJobOn
   queue-settled t q = record { count = q .count; once = q .once }
 
-  arrivals-settled : ArrivalsSound (settled w e (destinationOf w e) health died)
+  arrivals-settled : ArrivalsSound (freed w e health died)
   unfolding settled
   arrivals-settled = let a = sound .arrivals in record { count = a .count; once = a .once; rising = a .rising; past = a .past }
 
   -- Jobs.
 
-  pub settled-dropped : (j : ℕ) → j < maxJobs → at ((settled w e (destinationOf w e) health died) .jobs .dropped) j ≡ at (w .jobs .dropped) j + putOffOf w died (destinationOf w e) j
+  pub settled-dropped : (j : ℕ) → j < maxJobs → at ((freed w e health died) .jobs .dropped) j ≡ at (w .jobs .dropped) j + putOffOf w died (destinationOf w e) j
   unfolding settled
   settled-dropped j l = getD-table (λ j. at (w .jobs .dropped) j + putOffOf w died (destinationOf w e) j) maxJobs j 0 l
 
-  settled-adds : (j : ℕ) → j < maxJobs → JobSound w j → waitingOf (settled w e (destinationOf w e) health died) j + at (w .jobs .picked) j + at ((settled w e (destinationOf w e) health died) .jobs .dropped) j ≡ at (w .jobs .n) j
+  settled-adds : (j : ℕ) → j < maxJobs → JobSound w j → waitingOf (freed w e health died) j + at (w .jobs .picked) j + at ((freed w e health died) .jobs .dropped) j ≡ at (w .jobs .n) j
   settled-adds j l h =
       let a = settled-dropped j l in
       let b = settled-waiting w e health died shaped sound inside busy j in
       let c = h .adds in
       omega arith
 
-  settled-busy-le : (j : ℕ) → JobSound w j → countTo (busyOf (settled w e (destinationOf w e) health died) j) maxEntries ≤ at (w .jobs .picked) j
+  settled-busy-le : (j : ℕ) → JobSound w j → countTo (busyOf (freed w e health died) j) maxEntries ≤ at (w .jobs .picked) j
   settled-busy-le j h =
-      le-trans (count-le (busyOf (settled w e (destinationOf w e) health died) j) (busyOf w j) maxEntries (settled-busy-of w e health died shaped sound inside busy j)) (h .busy)
+      le-trans (count-le (busyOf (freed w e health died) j) (busyOf w j) maxEntries (settled-busy-of w e health died shaped sound inside busy j)) (h .busy)
 
-  settled-complete : (j : ℕ) → JobSound w j → (i : ℕ) → i < maxEntries → usedOf (settled w e (destinationOf w e) health died) j i ≡ true → holds (destinationOf w i) (orderOf w j) ≡ true
+  settled-complete : (j : ℕ) → JobSound w j → (i : ℕ) → i < maxEntries → usedOf (freed w e health died) j i ≡ true → holds (destinationOf w i) (orderOf w j) ≡ true
   settled-complete j h i l u = h .complete i l (settled-used w e health died shaped sound inside busy j i l u)
 
-  job-settled : (j : ℕ) → j < maxJobs → JobSound w j → JobSound (settled w e (destinationOf w e) health died) j
+  job-settled : (j : ℕ) → j < maxJobs → JobSound w j → JobSound (freed w e health died) j
   unfolding settled orderOf
   job-settled j l h =
       record {
@@ -131,8 +131,8 @@ module _ (w : State) (e : ℕ) (health : Health) (died : Bool) (shaped : Shaped 
       }
 
   -- jobs of other transports keep their entries
-  settled-others : (j : ℕ) → j < maxJobs → isPresent w j ≡ true → at (w .jobs .transport) j ≢ transportOf w (destinationOf w e) → anyTo (usedOf (settled w e (destinationOf w e) health died) j) maxEntries ≡ true
-  settled-others j l h ne = any-imp (usedOf w j) (usedOf (settled w e (destinationOf w e) health died) j) maxEntries still (sound .used j l h)
+  settled-others : (j : ℕ) → j < maxJobs → isPresent w j ≡ true → at (w .jobs .transport) j ≢ transportOf w (destinationOf w e) → anyTo (usedOf (freed w e health died) j) maxEntries ≡ true
+  settled-others j l h ne = any-imp (usedOf w j) (usedOf (freed w e health died) j) maxEntries still (sound .used j l h)
     where
       elsewhere : (i : ℕ) → i < maxEntries → usedOf w j i ≡ true → destinationOf w i ≡ (destinationOf w e) → ⊥
       elsewhere i k u q =
@@ -140,32 +140,32 @@ module _ (w : State) (e : ℕ) (health : Health) (died : Bool) (shaped : Shaped 
           (sym (ap (at (w .jobs .transport)) (used-job w j i u)) ∙ sound .entries i k (used-not-free w j i u) .transport
           ∙ ap (transportOf w) q)
 
-      still : (i : ℕ) → i < maxEntries → usedOf w j i ≡ true → usedOf (settled w e (destinationOf w e) health died) j i ≡ true
+      still : (i : ℕ) → i < maxEntries → usedOf w j i ≡ true → usedOf (freed w e health died) j i ≡ true
       still i k u =
           settled-entry w e health died shaped sound inside busy i k (λ q r. absurd (elsewhere i k u (ap (destinationOf w) q)))
           (λ n t r. absurd (elsewhere i k u (put-off-destination w died (destinationOf w e) i t)))
-          (λ n t r. same-used w (settled w e (destinationOf w e) health died) i r j ∙ u)
+          (λ n t r. same-used w (freed w e health died) i r j ∙ u)
 
   -- Destinations.
 
-  pub settled-health : healthOf (settled w e (destinationOf w e) health died) (destinationOf w e) ≡ health
+  pub settled-health : healthOf (freed w e health died) (destinationOf w e) ≡ health
   unfolding settled
   settled-health =
       let l = reported-entry w e health died shaped sound inside busy .destination in
       let b = sound .setup .destinations .1 in
       ap (λ d. d .health) (getD-set-same (w .destinations) (destinationOf w e) (record { health = health }) zeroDestination (rw (shaped .destinations) (omega arith)))
 
-  pub settled-health-other : (d : ℕ) → d ≢ (destinationOf w e) → healthOf (settled w e (destinationOf w e) health died) d ≡ healthOf w d
+  pub settled-health-other : (d : ℕ) → d ≢ (destinationOf w e) → healthOf (freed w e health died) d ≡ healthOf w d
   unfolding settled
   settled-health-other d ne = ap (λ d. d .health) (getD-set-other (w .destinations) (destinationOf w e) d (record { health = health }) zeroDestination ne)
 
   -- what waits afterwards waited, and was not put off
-  still-waits : (i : ℕ) → i < maxEntries → isWaiting (settled w e (destinationOf w e) health died) i ≡ true → (isWaiting w i ≡ true) × (isPutOff w died (destinationOf w e) i ≡ false)
+  still-waits : (i : ℕ) → i < maxEntries → isWaiting (freed w e health died) i ≡ true → (isWaiting w i ≡ true) × (isPutOff w died (destinationOf w e) i ≡ false)
   still-waits i l h =
-      let r = settled-used-same w e health died shaped sound inside busy i l (waiting-used (settled w e (destinationOf w e) health died) i h) in
-      (sym (same-waiting w (settled w e (destinationOf w e) health died) i (r .2)) ∙ h, r .1)
+      let r = settled-used-same w e health died shaped sound inside busy i l (waiting-used (freed w e health died) i h) in
+      (sym (same-waiting w (freed w e health died) i (r .2)) ∙ h, r .1)
 
-  destination-self : Stepped w (destinationOf w e) health died → DestinationSound (settled w e (destinationOf w e) health died) (destinationOf w e)
+  destination-self : Stepped w (destinationOf w e) health died → DestinationSound (freed w e health died) (destinationOf w e)
   unfolding settled
   destination-self step =
       record {
@@ -176,7 +176,7 @@ module _ (w : State) (e : ℕ) (health : Health) (died : Bool) (shaped : Shaped 
             ⊎-elim (λ k. true-not-false (put-off-of w died (destinationOf w e) i k (r .0) z) (r .1)) (λ k. k i l (r .0) z) (step .dead end (sym settled-health ∙ q));
       }
 
-  destination-other : (d : ℕ) → d ≢ (destinationOf w e) → DestinationSound w d → DestinationSound (settled w e (destinationOf w e) health died) d
+  destination-other : (d : ℕ) → d ≢ (destinationOf w e) → DestinationSound w d → DestinationSound (freed w e health died) d
   unfolding settled
   destination-other d ne h =
       record {
@@ -184,13 +184,13 @@ module _ (w : State) (e : ℕ) (health : Health) (died : Bool) (shaped : Shaped 
         dead = λ end q i l k z. h .dead end (sym (settled-health-other d ne) ∙ q) i l (still-waits i l k .0) z;
       }
 
-  destinations-settled : Stepped w (destinationOf w e) health died → (d : ℕ) → d < w .setup .destinations → DestinationSound (settled w e (destinationOf w e) health died) d
+  destinations-settled : Stepped w (destinationOf w e) health died → (d : ℕ) → d < w .setup .destinations → DestinationSound (freed w e health died) d
   destinations-settled step d l = elim (ℕ-discrete d (destinationOf w e)) [
-    | yes q ↦ subst (DestinationSound (settled w e (destinationOf w e) health died)) (sym q) (destination-self step)
+    | yes q ↦ subst (DestinationSound (freed w e health died)) (sym q) (destination-self step)
     | no ne ↦ destination-other d ne (sound .destinations d l)
   ]
 
-  pub sound-settled : Stepped w (destinationOf w e) health died → SoundBesides (transportOf w (destinationOf w e)) (settled w e (destinationOf w e) health died)
+  pub sound-settled : Stepped w (destinationOf w e) health died → SoundBesides (transportOf w (destinationOf w e)) (freed w e health died)
   unfolding settled
   sound-settled step =
       record {

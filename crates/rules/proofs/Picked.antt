@@ -18,10 +18,12 @@ use Rattle.rules.specs.Sizes.{maxJobs, maxEntries}
 use Rattle.rules.specs.State.{at, transportOf, queueOf, isWaiting, jobOf, destinationOf, isPresent, orderAt}
 use Rattle.rules.specs.Sound.{isJobOn, orderOf}
 use Rattle.rules.specs.SoundFacts.{JobSound, Sound}
-use Rattle.rules.specs.Picking.{eligible, eligibleOn, eligibleOf, eligibleTo, hasEligible, stepsTo, transportSteps, finds, nextTransport, currentJob, nextPlace, nextEntry}
+use Rattle.rules.specs.Picking.{eligible, eligibleOn, eligibleOf, eligibleTo, hasEligible, stepsTo, transportSteps, finds, nextTransport}
+use Rattle.rules.specs.Picking.{currentJob, nextPlace, nextEntry}
 use Rattle.rules.proofs.Shape.{Shaped}
 use Rattle.rules.proofs.Turns.{steps-found, steps-holds, steps-below, steps-any}
-use Rattle.rules.proofs.EntryFacts.{eligible-has, eligible-waits, eligible-of-eligible, eligible-of-job, eligible-of-waits, waits-of-used, eligible-sound, present-below}
+use Rattle.rules.proofs.EntryFacts.{eligible-has, eligible-waits, eligible-of-eligible, eligible-of-job, eligible-of-waits, waits-of-used}
+use Rattle.rules.proofs.EntryFacts.{eligible-sound, present-below}
 
 -- A transport's list.
 
@@ -98,7 +100,11 @@ current-found w t shape h f =
       present = job .1;
       transport = job .2;
       eligible = first-of-passes (hasEligible w) (queueOf w t) maxJobs (jobOf w (x .0)) in-queue passes;
-      first = λ j k. not-true (hasEligible w j) (every-at (λ z. not (hasEligible w z)) (upTo (firstOf (hasEligible w) (queueOf w t) maxJobs) (queueOf w t)) (up-to-first (hasEligible w) (queueOf w t) maxJobs) j k);
+      first =
+          λ j k.
+          not-true (hasEligible w j)
+          (every-at (λ z. not (hasEligible w z)) (upTo (firstOf (hasEligible w) (queueOf w t) maxJobs) (queueOf w t))
+          (up-to-first (hasEligible w) (queueOf w t) maxJobs) j k);
     }
 
 -- A job's next entry.

@@ -21,7 +21,8 @@ use Rattle.rules.specs.Sizes.{maxJobs}
 use Rattle.rules.specs.State.{at, settingsOf, listOf, queueOf, isPresent, hasPreempted, waitingOf}
 use Rattle.rules.specs.SoundFacts.{Sound}
 use Rattle.rules.specs.Picking.{hasEligible}
-use Rattle.rules.specs.Preemption.{credit, hasCredit, owned, creditOf, affordable, canPayFor, isCandidate, bestCandidate, paysForBest, longEnough, isPreempted, preemptorOf}
+use Rattle.rules.specs.Preemption.{credit, hasCredit, owned, creditOf, affordable, canPayFor, isCandidate, bestCandidate, paysForBest}
+use Rattle.rules.specs.Preemption.{longEnough, isPreempted, preemptorOf}
 use Rattle.rules.proofs.Shape.{Shaped}
 use Rattle.rules.proofs.RangeFacts.{slots-range}
 use Rattle.rules.proofs.EntryFacts.{has-eligible-waits}
@@ -88,7 +89,8 @@ preempted-facts w now t y h =
     (eqb-false c 0 (not-true (eqb c 0) (r .0)), r .1, leb-true (settingsOf w t .minimum * c) (at (w .jobs .n) y) (r .2), r .3)
 
 -- with an eligible entry, another job stands behind the current one
-stands-behind : (w : State) (t y x : ℕ) → Shaped w → Sound w → t < w .setup .transports → Current w t y → x ≢ y → isPresent w x ≡ true → at (w .jobs .transport) x ≡ t → hasEligible w x ≡ true → Before y x (queueOf w t)
+stands-behind : (w : State) (t y x : ℕ) → Shaped w → Sound w → t < w .setup .transports → Current w t y
+    → x ≢ y → isPresent w x ≡ true → at (w .jobs .transport) x ≡ t → hasEligible w x ≡ true → Before y x (queueOf w t)
 stands-behind w t y x shape h l cur ne p on el =
     ⊎-elim (λ b. b)
     (λ b. true-not-false el (cur .first x (before-up-to x y (queueOf w t) (once-le (queue-once w t h l) y) b)))

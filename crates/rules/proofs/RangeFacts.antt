@@ -84,7 +84,8 @@ pub windows-range : (g : Settings) → settingsInRange g ≡ true → WindowsRan
 unfolding settingsInRange windowsInRange
 windows-range g h =
     let k =
-    and-6 (within 1 maxWindow (g .limit)) (within 1 (g .limit) (g .initial)) (feedbackInRange _ (g .positive)) (feedbackInRange _ (g .negative)) (within 1 100 (g .cohortlimit)) (within 1 86_400 (g .suspension))
+    and-6 (within 1 maxWindow (g .limit)) (within 1 (g .limit) (g .initial)) (feedbackInRange _ (g .positive)) (feedbackInRange _ (g .negative))
+    (within 1 100 (g .cohortlimit)) (within 1 86_400 (g .suspension))
     (and-right (slotsInRange g) (windowsInRange g) h) in
     record {
       limit = within-facts (k .0);

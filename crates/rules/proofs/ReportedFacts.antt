@@ -98,7 +98,8 @@ module _ (w : State) (now e : ℕ) (outcome : Outcome) (shaped : Shaped w) (soun
   -- what waited is put off or waits still
   pub reported-waiting : (j : ℕ) → waitingOf w j ≡ putOffOf w (diedBy w now e outcome) (destinationOf w e) j + waitingOf (reportedBy w now e outcome) j
   reported-waiting j =
-      settled-waiting w e (healthBy w now e outcome) (diedBy w now e outcome) shaped sound inside busy j ∙ ap (λ k. putOffOf w (diedBy w now e outcome) (destinationOf w e) j + k) (sym (reported-waiting-settled w now e outcome j))
+      settled-waiting w e (healthBy w now e outcome) (diedBy w now e outcome) shaped sound inside busy j
+      ∙ ap (λ k. putOffOf w (diedBy w now e outcome) (destinationOf w e) j + k) (sym (reported-waiting-settled w now e outcome j))
 
   pub reported-waiting-le : (j : ℕ) → waitingOf (reportedBy w now e outcome) j ≤ waitingOf w j
   reported-waiting-le j = omega (arith, reported-waiting j)
@@ -141,7 +142,8 @@ module _ (w : State) (now e : ℕ) (outcome : Outcome) (shaped : Shaped w) (soun
   unfolding reporting reportedAt
   reported-queue u l =
       departed-queues (settledBy w now e outcome) (transportOf w (destinationOf w e)) settledShape below-four (besides .used) u (besides .queues u (rw settled-transports l))
-      ∙ keep-same (stays (settledBy w now e outcome)) (isPresent (reportedBy w now e outcome)) (queueOf (settledBy w now e outcome) u) (λ x h. sym (reported-present x)) ∙ ap (keep (isPresent (reportedBy w now e outcome))) (settled-queues u)
+      ∙ keep-same (stays (settledBy w now e outcome)) (isPresent (reportedBy w now e outcome)) (queueOf (settledBy w now e outcome) u) (λ x h. sym (reported-present x))
+      ∙ ap (keep (isPresent (reportedBy w now e outcome))) (settled-queues u)
 
   -- Parents.
 

@@ -38,7 +38,8 @@ use Rattle.rules.proofs.SimRows.{job-is, row-inside, rows-apart, presen
 use Rattle.rules.proofs.SimChain.{link-to-job}
 use Rattle.rules.proofs.SimTally.{Alike, alike-jobs, naming-alike, naming-overtakers, naming-names, overtaken-names, preempted-alike, overtaken-column}
 use Rattle.rules.proofs.SimOvertaking.{over-after}
-use Rattle.rules.proofs.Preempted.{preempting-waits, preempting-queue-own, preempting-queue-other, preempting-sold-own, preempting-sold-other, preempting-parent-own, preempting-parent-other, preempting-marked-own, preempting-marked-other}
+use Rattle.rules.proofs.Preempted.{preempting-waits, preempting-queue-own, preempting-queue-other, preempting-sold-own, preempting-sold-other}
+use Rattle.rules.proofs.Preempted.{preempting-parent-own, preempting-parent-other, preempting-marked-own, preempting-marked-other}
 
 module _ {u : Setup} {w : State} {y : Tally} {g : Columns} (m : Sim u w y g) (shaped : Shaped w) (sound : Sound w) (now t b x bi xi : ℕ)
     (below : t < w .setup .transports) (cur : Current w t b) (p : Preempts w now t b x) (eb : rowOf (y .rows) b ≡ suc bi)

@@ -120,7 +120,10 @@ module _ {u : Setup} {w : State} {y : Tally} {g : Columns} (m : Sim u w y g) (j 
   present-job : (x i : ℕ) → i < g .rows → isPresent after x && eqb (rowOf rows x) (suc i) ≡ isPresent w x && eqb (rowOf (y .rows) x) (suc i)
   present-job x i l =
       elim (ℕ-discrete x j) [
-        | yes e ↦ rw e (and-right-false (isPresent after j) (rw row-of-j (ne-eqb (suc (g .rows)) (suc i) (λ q. lt-irrefl i (rw (suc-inj q) at l)))) ∙ sym (and-left-false (eqb (rowOf (y .rows) j) (suc i)) (fits .absent)))
+        | yes e ↦
+            rw e
+            (and-right-false (isPresent after j) (rw row-of-j (ne-eqb (suc (g .rows)) (suc i) (λ q. lt-irrefl i (rw (suc-inj q) at l))))
+            ∙ sym (and-left-false (eqb (rowOf (y .rows) j) (suc i)) (fits .absent)))
         | no ne ↦ rw (taken-others w j t now kept shaped sound fits x ne .present, row-of-other x ne) refl
       ]
 

@@ -26,7 +26,8 @@ use Rattle.rules.specs.Sound.{orderOf}
 use Rattle.rules.specs.SoundFacts.{Sound}
 use Rattle.rules.specs.Taking.{isDead, keptOf, nOf, newNumber, freePlaces, newOrder, taken}
 use Rattle.rules.specs.Refusals.{isDestinationOn, lacksNumber, lacksPlaces}
-use Rattle.rules.proofs.Shape.{Shaped, present-length, transport-length, n-length, picked-length, dropped-length, sold-length, parent-length, preempted-length, arrival-length, overtakers-length, turn-length, places-length, order-length}
+use Rattle.rules.proofs.Shape.{Shaped, present-length, transport-length, n-length, picked-length, dropped-length, sold-length, parent-length}
+use Rattle.rules.proofs.Shape.{preempted-length, arrival-length, overtakers-length, turn-length, places-length, order-length}
 use Rattle.rules.proofs.Filled.{amongFirst, filled-chosen, with-order-at, with-order-other}
 
 -- a job j with these destinations fits into w, on transport t

@@ -87,7 +87,8 @@ module _ (w : State) (j t now : ℕ) (kept : List ℕ) (shaped : Shaped w) (soun
   unfolding busyOn
   taken-busy-on u e l =
       taken-entry e l
-      (λ r. and-left-false (eqb (at ((taken w j t now kept) .setup .home) (destinationOf (taken w j t now kept) e)) u) (ap (λ k. eqb k 2) (r .kind)) ∙ sym (and-left-false (eqb (at (w .setup .home) (destinationOf w e)) u) (free-not-busy w e (r .free))))
+      (λ r. and-left-false (eqb (at ((taken w j t now kept) .setup .home) (destinationOf (taken w j t now kept) e)) u) (ap (λ k. eqb k 2) (r .kind))
+      ∙ sym (and-left-false (eqb (at (w .setup .home) (destinationOf w e)) u) (free-not-busy w e (r .free))))
       (λ r. same-busy-on w (taken w j t now kept) e r u taken-setup)
 
   -- How many wait.
