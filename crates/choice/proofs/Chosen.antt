@@ -48,7 +48,9 @@ module _ (w : State) (shape : Shaped w) (h : Sound w) where
       let n = h .arrivals .count in
       let here : at (listOf (w .arrivals)) i ≡ at (w .arrivals .jobs) i = getD-take (w .arrivals .count) (w .arrivals .jobs) i 0 l in
       let long = length-take-le (w .arrivals .count) (w .arrivals .jobs) (omega (arith, shape .arrivals)) in
-      let k : holds (at (w .arrivals .jobs) i) (listOf (w .arrivals)) ≡ true = subst (λ x. holds x (listOf (w .arrivals)) ≡ true) here (holds-getD (listOf (w .arrivals)) i 0 (omega (arith, long))) in
+      let k : holds (at (w .arrivals .jobs) i) (listOf (w .arrivals)) ≡ true =
+      subst (λ x. holds x (listOf (w .arrivals)) ≡ true) here (holds-getD (listOf (w .arrivals)) i 0 (omega (arith, long)))
+      in
       (once-facts (isPresent w) 32 (listOf (w .arrivals)) (h .arrivals .once) .below (at (w .arrivals .jobs) i) k, omega (arith, h .arrivals .past (at (w .arrivals .jobs) i) k))
 
   pub sold-read : (t y : ℕ) → Current w t y → settingsOf w t .cost * at (w .jobs .sold) y ≤ 256
@@ -57,7 +59,8 @@ module _ (w : State) (shape : Shaped w) (h : Sound w) where
       omega (arith, ap (λ x. settingsOf w x .cost * at (w .jobs .sold) y) (r .transport), s .sold, s .n .1)
 
   -- the job picked from
-  pub job-read : (now t y link j : ℕ) → t < w .setup .transports → Current w t y → link ≡ preemptorOf w now t y → j ≡ pickedFrom y link → (j < 32) × (isPresent w j ≡ true) × (hasEligible w j ≡ true)
+  pub job-read : (now t y link j : ℕ) → t < w .setup .transports → Current w t y → link ≡ preemptorOf w now t y → j ≡ pickedFrom y link
+      → (j < 32) × (isPresent w j ≡ true) × (hasEligible w j ≡ true)
   unfolding pickedFrom
   job-read now t y zero j l r p e = subst (λ x. (x < 32) × (isPresent w x ≡ true) × (hasEligible w x ≡ true)) (sym e) (r .below, r .present, r .eligible)
   job-read now t y (suc x) j l r p e =

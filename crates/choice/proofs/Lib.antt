@@ -1,2 +1,2 @@
-pub mod Glue
+pub mod Readings
 pub mod Chosen
