@@ -111,7 +111,8 @@ module _ {jobs : Jobs} {arrivals : JobList} {waits : List ℕ} {ready : List Boo
       go zero e = omega arith
       go (suc b) e = omega (arith, r .link b e .0)
 
-  pub best-all : i ≡ arrivals .count → arrivals .count ≤ 32 → length (arrivals .jobs) ≡ 32 → (s : State) → Matches s jobs arrivals waits ready t y most → best ≡ bestCandidate s time t y
+  pub best-all : i ≡ arrivals .count → arrivals .count ≤ 32 → length (arrivals .jobs) ≡ 32 → (s : State) → Matches s jobs arrivals waits ready t y most
+      → best ≡ bestCandidate s time t y
   unfolding bestCandidate
   best-all e l len s m =
       r .fold s m

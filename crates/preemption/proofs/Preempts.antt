@@ -19,7 +19,8 @@ use Rattle.eligibility.specs.Eligibility.{Reads}
 abbrev pub Preempting : State → ℕ → ℕ → ℕ → ℕ → ℕ → Type 0
 Preempting s time t y link waiting = (link ≡ preemptorOf s time t y) × (waiting ≡ waitingAt s link)
 
-module _ (s : State) (jobs : Jobs) (g : Settings) (waits : List ℕ) (ready : List Bool) (time t y : ℕ) (same : s .jobs ≡ jobs) (settings : settingsOf s t ≡ g) (reads : Reads s waits ready) where
+module _ (s : State) (jobs : Jobs) (g : Settings) (waits : List ℕ) (ready : List Bool) (time t y : ℕ) (same : s .jobs ≡ jobs) (settings : settingsOf s t
+    ≡ g) (reads : Reads s waits ready) where
   nobody : isPreempted s time t y ≡ false → Preempting s time t y 0 0
   unfolding preemptorOf waitingAt
   nobody f = (sym (if-false (bestCandidate s time t y) 0 f), refl)

@@ -17,14 +17,28 @@ Inv-loop waits pairs room time t y most jobs arrivals n best₀ i₀ best i = (n
 abbrev μ-loop : tie.MeasureT-loop
 μ-loop waits pairs room time t y most jobs arrivals n best₀ i₀ best i = n - i
 
+-- Places in the loop, each seen from a later one: where the job's index was taken, whether it may preempt was tested, and both tests are done.
+
+abbrev looped : tie.After-wide Inv-loop μ-loop → tie.At-loop Inv-loop μ-loop
+looped c = c .before .before .before
+
+abbrev begun : tie.After-wide Inv-loop μ-loop → tie.Start Inv-loop μ-loop
+begun c = looped c .before
+
+abbrev indexed : tie.After-candidate Inv-loop μ-loop → tie.After-wide Inv-loop μ-loop
+indexed c = c .before .before .before .before .before
+
+abbrev tested : tie.After-challenges Inv-loop μ-loop → tie.After-candidate Inv-loop μ-loop
+tested c = c .before .before .before
+
 cast-n : tie.Need-cast-n Inv-loop μ-loop
 cast-n c = omega (arith, c .pre .1)
 
 -- the job at a rank of the list
-here : (c : tie.After-wide Inv-loop μ-loop) → (c .wide .result < 32) × (at (c .before .before .before .before .args .t2 .jobs) (c .before .before .before .loop .i) < 32)
-    × (at (c .before .before .before .before .args .t1 .arrival) (at (c .before .before .before .before .args .t2 .jobs) (c .before .before .before .loop .i)) ≤ c .before .before .before .before .args .time)
+here : (c : tie.After-wide Inv-loop μ-loop) → (c .wide .result < 32) × (at (begun c .args .t2 .jobs) (looped c .loop .i) < 32)
+    × (at (begun c .args .t1 .arrival) (at (begun c .args .t2 .jobs) (looped c .loop .i)) ≤ begun c .args .time)
 here c =
-    let p = c .before .before .before .before .pre .3 (c .before .before .before .loop .i) (c .before .before .loop-test .taken) in
+    let p = begun c .pre .3 (looped c .loop .i) (c .before .before .loop-test .taken) in
     (omega (arith, c .wide .ensures .0, p .0), p .0, p .1)
 
 loop-holds : tie.Need-loop-holds Inv-loop μ-loop
@@ -58,29 +72,39 @@ candidate-requires : tie.Need-candidate-requires Inv-loop μ-loop
 candidate-requires c κs = tt
 
 challenges-requires : tie.Need-challenges-requires Inv-loop μ-loop
-challenges-requires c κs = let p = here (c .before .before .before .before .before .before .before) in
-    (c .before .before .before .before .before .before .before .before .before .before .before .pre .0, p .1, p .2, c .before .before .before .before .before .before .before .before .before .before .loop .inv .1 .link)
+challenges-requires c κs =
+    let k = c .before .before in
+    let p = here (indexed k) in
+    (begun (indexed k) .pre .0, p .1, p .2, looped (indexed k) .loop .inv .1 .link)
 
 is-ready-requires : tie.Need-is-ready-requires Inv-loop μ-loop
 is-ready-requires c κs = tt
 
 add-best : tie.Need-add-best Inv-loop μ-loop
-add-best c = omega (arith, here (c .before .before .before .before .before .before .before .before .before .before .before) .1)
+add-best c = omega (arith, here (indexed (tested (c .before .before .before))) .1)
 
 add-i : tie.Need-add-i Inv-loop μ-loop
-add-i c = omega (arith, c .before .before .before .before .before .before .before .before .before .before .before .loop-test .taken, c .before .before .before .before .before .before .before .before .before .before .before .before .before .pre .1)
+add-i c = omega (arith, indexed (tested (c .before)) .before .before .loop-test .taken, begun (indexed (tested (c .before))) .pre .1)
 
 loop-less : tie.Need-loop-less Inv-loop μ-loop
-loop-less c = omega (arith, c .before .before .before .before .before .before .before .before .before .before .before .loop-test .taken)
+loop-less c = omega (arith, indexed (tested (c .before)) .before .before .loop-test .taken)
 
 loop-again : tie.Need-loop-again Inv-loop μ-loop
-loop-again c = let p = here (c .before .before .before .before .before .before .before .before .before) in
-    let miss = best-miss (c .before .before .before .before .before .before .before .before .before .before .before .before .loop .inv .1) (c .before .before .before .before .before .before .before .before .before .before .before .loop-test .taken) _ refl (p .1) (c .before .before .before .before .before .before .before .before .before .wide .result) (c .before .before .before .before .before .before .before .before .before .wide .ensures .0) (c .before .before .before .before .candidate .result) (c .before .challenges .result) (c .before .before .before .before .candidate .ensures) (c .before .challenges .ensures .0) (c .before .challenges .ensures .1) in (
+loop-again c =
+    let k = tested (c .before) in
+    let l = looped (indexed k) in
+    let p = here (indexed k) in
+    let miss =
+    best-miss (l .loop .inv .1) (indexed k .before .before .loop-test .taken) _ refl (p .1) (indexed k .wide .result) (indexed k .wide .ensures .0)
+    (k .candidate .result) (c .before .challenges .result) (k .candidate .ensures) (c .before .challenges .ensures .0) (c .before .challenges .ensures .1)
+    in (
       refl,
       ⊎-elim
-          (λ w. best-is (best-hit (c .before .before .before .before .before .before .before .before .before .before .before .before .loop .inv .1) (c .before .before .before .before .before .before .before .before .before .before .before .loop-test .taken) _ refl (p .1) (c .before .before .before .before .before .before .before .before .before .wide .result) (c .before .before .before .before .before .before .before .before .before .wide .ensures .0) (c .before .before .before .before .candidate .result) (c .before .challenges .result) (c .before .before .before .before .candidate .ensures) (c .before .challenges .ensures .0) (c .before .challenges .ensures .1) (and-both (w .0 .taken) (sym (w .1 .ensures) ∙ w .2 .taken)) (p .2)) (c .if1 .best) (w .3))
+          (λ w. best-is (best-hit (l .loop .inv .1) (indexed k .before .before .loop-test .taken) _ refl (p .1) (indexed k .wide .result) (indexed k .wide .ensures .0) (k .candidate .result)
+          (c .before .challenges .result) (k .candidate .ensures) (c .before .challenges .ensures .0) (c .before .challenges .ensures .1)
+          (and-both (w .0 .taken) (sym (w .1 .ensures) ∙ w .2 .taken)) (p .2)) (c .if1 .best) (w .3))
           (⊎-elim
-          (λ w. best-is (miss (and-right-false (c .before .before .before .before .candidate .result && c .before .challenges .result) (sym (w .1 .ensures) ∙ w .2 .left))) (c .if1 .best) (w .3))
+          (λ w. best-is (miss (and-right-false (k .candidate .result && c .before .challenges .result) (sym (w .1 .ensures) ∙ w .2 .left))) (c .if1 .best) (w .3))
           (λ w. best-is (miss (and-left-false _ (w .0 .left))) (c .if1 .best) (w .1)))
           (c .if1 .came),
     )
@@ -88,7 +112,8 @@ loop-again c = let p = here (c .before .before .before .before .before .before .
 returns : tie.Need-returns Inv-loop μ-loop
 returns c = (
   best-below (c .before .loop .inv .1),
-  λ s j a r m. best-all (c .before .loop .inv .1) (omega (arith, c .loop-test .left, c .before .loop .inv .1 .bound)) (c .before .before .pre .1) (c .before .before .pre .2) s (record { jobs' = j; arrivals' = a; reads = r; most' = m }),
+  λ s j a r m. best-all (c .before .loop .inv .1) (omega (arith, c .loop-test .left, c .before .loop .inv .1 .bound))
+      (c .before .before .pre .1) (c .before .before .pre .2) s (record { jobs' = j; arrivals' = a; reads = r; most' = m }),
 )
 
 pub best-candidate-spec : {M : Type 1} → statement M

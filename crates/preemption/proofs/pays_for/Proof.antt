@@ -10,16 +10,22 @@ sub-result : tie.Need-sub-result
 sub-result c = search needs
 
 mul-result : tie.Need-mul-result
-mul-result c = price-fits (c .before .args .m) (c .before .args .g .discount) (c .before .pre .4)
+mul-result c =
+    let x = c .before .args in
+    price-fits (x .m) (x .g .discount) (c .before .pre .4)
 
 div-result : tie.Need-div-result
 div-result c = search needs
 
 add-result : tie.Need-add-result
-add-result c = worth-fits (c .before .before .before .args .a) (c .before .before .before .args .g .cost) (c .before .before .before .args .g .loan) (c .before .before .before .pre .3) (c .before .before .before .pre .1) .0
+add-result c =
+    let s = c .before .before .before in
+    worth-fits (s .args .a) (s .args .g .cost) (s .args .g .loan) (s .pre .3) (s .pre .1) .0
 
 mul-result-2 : tie.Need-mul-result-2
-mul-result-2 c = worth-fits (c .before .before .before .args .a) (c .before .before .before .args .g .cost) (c .before .before .before .args .g .loan) (c .before .before .before .pre .3) (c .before .before .before .pre .1) .1
+mul-result-2 c =
+    let s = c .before .before .before in
+    worth-fits (s .args .a) (s .args .g .cost) (s .args .g .loan) (s .pre .3) (s .pre .1) .1
 
 returns : tie.Need-returns
 unfolding paysFor
