@@ -13,7 +13,8 @@ use Rattle.rules.specs.declared.Jobs.{Jobs}
 use Rattle.rules.specs.State.{at}
 use Rattle.eligibility.specs.Eligibility.{waitsIn, leftIn, Adds}
 
-pub left-is : (g : Jobs) (kind job : List ℕ) → Adds g kind job → (waits : List ℕ) → ((j : ℕ) → j < 32 → at waits j ≡ leftIn (g .present) (g .n) (g .picked) (g .dropped) j) → ((j : ℕ) → 32 ≤ j → j < 256 → at waits j ≡ 0)
+pub left-is : (g : Jobs) (kind job : List ℕ) → Adds g kind job → (waits : List ℕ) → ((j : ℕ) → j < 32 → at waits j ≡ leftIn (g .present) (g .n) (g .picked) (g .dropped) j)
+    → ((j : ℕ) → 32 ≤ j → j < 256 → at waits j ≡ 0)
     → (j : ℕ) → j < 256 → at waits j ≡ countTo (waitsIn kind job j) 512
 unfolding leftIn if_then_else_
 left-is g kind job adds waits own others j l =

@@ -55,7 +55,8 @@ module _ (w : State) (shape : Shaped w) (h : Sound w) (room : List Bool) (rooms 
     to-below e l t = omega (arith, h .entries e l (waiting-used w e t) .destination, h .setup .destinations)
 
     -- the pair of a waiting entry says its job and its destination
-    of-pair : (j d e : ℕ) → d < 32 → e < 512 → (isWaiting w e && eqb (32 * jobOf w e + destinationOf w e) (32 * j + d)) ≡ waitsFor (w .entries .kind) (w .entries .job) (w .entries .destination) j d e
+    of-pair : (j d e : ℕ) → d < 32 → e < 512
+        → (isWaiting w e && eqb (32 * jobOf w e + destinationOf w e) (32 * j + d)) ≡ waitsFor (w .entries .kind) (w .entries .job) (w .entries .destination) j d e
     unfolding waitsFor
     of-pair j d e b l =
         case-bool (isWaiting w e)
@@ -71,7 +72,8 @@ module _ (w : State) (shape : Shaped w) (h : Sound w) (room : List Bool) (rooms 
     some-waits j d a b =
         ap (ltb 0) (paired .counts (32 * j + d) (omega arith))
         ∙ sym (count-any (λ e. isWaiting w e && eqb (32 * jobOf w e + destinationOf w e) (32 * j + d)) 512)
-        ∙ any-same (λ e. isWaiting w e && eqb (32 * jobOf w e + destinationOf w e) (32 * j + d)) (waitsFor (w .entries .kind) (w .entries .job) (w .entries .destination) j d) 512 (λ e l. of-pair j d e b l)
+        ∙ any-same (λ e. isWaiting w e && eqb (32 * jobOf w e + destinationOf w e) (32 * j + d))
+        (waitsFor (w .entries .kind) (w .entries .job) (w .entries .destination) j d) 512 (λ e l. of-pair j d e b l)
 
     -- where destination d has room, what waits for it is eligible
     waits-eligible : (j d e : ℕ) → e < 512 → getD room d false ≡ true → waitsFor (w .entries .kind) (w .entries .job) (w .entries .destination) j d e ≡ eligibleTo w j d e
@@ -152,7 +154,8 @@ module _ (w : State) (shape : Shaped w) (h : Sound w) (room : List Bool) (rooms 
               (λ e l. false-of (λ t. (let f = eligible-open j (orderAt w j k) e l t in omega (arith, f .0, to-below e l (f .1))))))
         ]
 
-    pub first-read : (j d : ℕ) → anyTo (eligibleTo w j d) 512 ≡ true → firstTo (waitsFor (w .entries .kind) (w .entries .job) (w .entries .destination) j d) 512 ≡ firstTo (eligibleTo w j d) 512
+    pub first-read : (j d : ℕ) → anyTo (eligibleTo w j d) 512 ≡ true
+        → firstTo (waitsFor (w .entries .kind) (w .entries .job) (w .entries .destination) j d) 512 ≡ firstTo (eligibleTo w j d) 512
     first-read j d some =
         let e = any-witness (eligibleTo w j d) 512 some in
         let o = eligible-open j d (e .0) (e .1) (e .2) .2 in

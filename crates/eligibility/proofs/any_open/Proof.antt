@@ -1,7 +1,7 @@
 -- `eligibility::any_open` meets its contract. Invariant: the result is the test over the destinations passed. Measure: those left. Assumes nothing.
-use Prim.Native.Nat.{_-_, _≤_}
+use Prim.Native.Nat.{ℕ, _-_, _≤_}
 use mathlib.Core.Path.{_≡_, refl, sym, _∙_, ap, ap₂}
-use mathlib.Core.Bool.{_||_}
+use mathlib.Core.Bool.{Bool, _||_}
 use native.Mathlib.Omega.{arith}
 use Rattle.laws.specs.Range.{anyTo}
 use Rattle.laws.proofs.All.{any-step}
@@ -14,6 +14,11 @@ Inv-loop pairs room j any₀ d₀ any d = (any ≡ anyTo (openPair pairs room j)
 
 abbrev μ-loop : tie.MeasureT-loop
 μ-loop pairs room j any₀ d₀ any d = 32 - d
+
+-- the test of a destination
+
+abbrev opens : tie.Start Inv-loop μ-loop → ℕ → Bool
+opens c = openPair (c .args .pairs .now) (c .args .room .now) (c .args .j)
 
 loop-holds : tie.Need-loop-holds Inv-loop μ-loop
 unfolding anyTo
@@ -30,13 +35,13 @@ loop-less c = omega (arith, c .before .loop-test .taken)
 
 loop-again : tie.Need-loop-again Inv-loop μ-loop
 loop-again c = (
-  ap₂ _||_ (c .before .before .loop .inv .0) (c .open-pair .ensures) ∙ sym (any-step (openPair (c .before .before .before .args .pairs .now) (c .before .before .before .args .room .now) (c .before .before .before .args .j)) (c .before .before .loop .d)),
+  ap₂ _||_ (c .before .before .loop .inv .0) (c .open-pair .ensures) ∙ sym (any-step (opens (c .before .before .before)) (c .before .before .loop .d)),
   omega (arith, c .before .loop-test .taken),
 )
 
 returns : tie.Need-returns Inv-loop μ-loop
 returns c = let e : c .before .loop .d ≡ 32 = omega (arith, c .loop-test .left, c .before .loop .inv .1) in
-    c .before .loop .inv .0 ∙ ap (anyTo (openPair (c .before .before .args .pairs .now) (c .before .before .args .room .now) (c .before .before .args .j))) e
+    c .before .loop .inv .0 ∙ ap (anyTo (opens (c .before .before))) e
 
 pub any-open-spec : {M : Type 1} → statement M
 any-open-spec =

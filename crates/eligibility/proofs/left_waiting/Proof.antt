@@ -13,6 +13,11 @@ Inv-loop present n picked dropped waits₀ j₀ waits j = Filled (leftIn present
 abbrev μ-loop : tie.MeasureT-loop
 μ-loop present n picked dropped waits₀ j₀ waits j = 32 - j
 
+-- the round that a job belongs to, seen from its end
+
+abbrev round : tie.After-left-of Inv-loop μ-loop → tie.In-loop Inv-loop μ-loop
+round c = c .before .before .before .before .before
+
 loop-holds : tie.Need-loop-holds Inv-loop μ-loop
 loop-holds c = filled-none _ _
 
@@ -41,20 +46,20 @@ left-of-requires : tie.Need-left-of-requires Inv-loop μ-loop
 left-of-requires c κs = c .before .before .before .before .before .before .pre (c .before .before .before .before .before .loop .j) (c .before .before .before .before .loop-test .taken)
 
 mul-waits : tie.Need-mul-waits Inv-loop μ-loop
-mul-waits c = omega (arith, c .before .before .before .before .before .loop-test .taken)
+mul-waits c = omega (arith, round c .loop-test .taken)
 
 array-write-waits : tie.Need-array-write-waits Inv-loop μ-loop
-array-write-waits c = omega (arith, c .before .before .before .before .before .loop-test .taken)
+array-write-waits c = omega (arith, round c .loop-test .taken)
 
 add-j : tie.Need-add-j Inv-loop μ-loop
-add-j c = omega (arith, c .before .before .before .before .before .loop-test .taken)
+add-j c = omega (arith, round c .loop-test .taken)
 
 loop-less : tie.Need-loop-less Inv-loop μ-loop
-loop-less c = omega (arith, c .before .before .before .before .before .loop-test .taken)
+loop-less c = omega (arith, round c .loop-test .taken)
 
 loop-again : tie.Need-loop-again Inv-loop μ-loop
 unfolding leftIn
-loop-again c = filled-more (c .before .before .before .before .before .before .loop .inv) (c .before .before .before .before .before .loop-test .taken) (c .left-of .ensures)
+loop-again c = filled-more (round c .before .loop .inv) (round c .loop-test .taken) (c .left-of .ensures)
 
 returns : tie.Need-returns Inv-loop μ-loop
 returns c = let e : c .before .loop .j ≡ 32 = omega (arith, c .loop-test .left, c .before .loop .inv .bound) in

@@ -1,10 +1,10 @@
 -- `turns::next_transport` meets its contract. Invariant: the steps before i find no front. Measure: the steps left. Assumes nothing.
 use Prim.Native.Nat.{ℕ, _+_, _%_, _≤_, _<_, _-_}
 use mathlib.Core.Path.{_≡_, refl, sym, _∙_, ap}
-use mathlib.Core.Bool.{false}
+use mathlib.Core.Bool.{Bool, false}
 use native.Mathlib.Nat.{not-suc-le-zero, mod-lt}
 use native.Mathlib.Omega.{arith}
-use mathlib.Core.List.{[]}
+use mathlib.Core.List.{List, []}
 use lib.Dec.{ltb}
 use lib.ListN.{getD}
 use borrow.Author.Count.{below-more}
@@ -24,82 +24,103 @@ Inv-loop transports start waits pairs room queues n from i₀ i = (i ≤ n) × (
 abbrev μ-loop : tie.MeasureT-loop
 μ-loop transports start waits pairs room queues n from i₀ i = n - i
 
+-- the start, seen from the loop; what may go, the transport of a step, and the round that a front belongs to
+
+abbrev begun : tie.In-loop Inv-loop μ-loop → tie.Start Inv-loop μ-loop
+begun c = c .before .before
+
+abbrev ready : tie.Start Inv-loop μ-loop → List Bool
+ready c = readyIn (c .args .pairs .now) (c .args .room .now)
+
+abbrev transport : tie.In-loop Inv-loop μ-loop → ℕ
+transport c = (begun c .args .start + c .before .loop .i) % begun c .args .transports
+
+abbrev round : tie.After-find-front Inv-loop μ-loop → tie.In-loop Inv-loop μ-loop
+round c = c .before .before .before .before
+
 -- the transport of a step
-turn-below : (c : tie.In-loop Inv-loop μ-loop) → (c .before .before .args .start + c .before .loop .i) % c .before .before .args .transports < c .before .before .args .transports
-turn-below c = mod-lt (c .before .before .args .start + c .before .loop .i) (omega (arith, c .loop-test .taken))
+turn-below : (c : tie.In-loop Inv-loop μ-loop) → transport c < begun c .args .transports
+turn-below c = mod-lt (begun c .args .start + c .before .loop .i) (omega (arith, c .loop-test .taken))
 
 -- its list, whatever stands past the four
 same-list : (c : tie.In-loop Inv-loop μ-loop)
-    → getD (c .before .before .args .t1) ((c .before .before .args .start + c .before .loop .i) % c .before .before .args .transports) (record { jobs = []; count = 0 })
-    ≡ getD (c .before .before .args .t1) ((c .before .before .args .start + c .before .loop .i) % c .before .before .args .transports) zeroList
+    → getD (begun c .args .t1) (transport c) (record { jobs = []; count = 0 })
+    ≡ getD (begun c .args .t1) (transport c) zeroList
 same-list c =
-    getD-default (c .before .before .args .t1) ((c .before .before .args .start + c .before .loop .i) % c .before .before .args .transports) (record { jobs = []; count = 0 }) zeroList
-    (omega (arith, turn-below c, c .before .before .pre .1, c .before .before .pre .3))
+    getD-default (begun c .args .t1) (transport c) (record { jobs = []; count = 0 }) zeroList
+    (omega (arith, turn-below c, begun c .pre .1, begun c .pre .3))
 
 front-is : (c : tie.After-find-front Inv-loop μ-loop)
     → c .find-front .result .job
-    ≡ frontOf (readyIn (c .before .before .before .before .before .before .args .pairs .now) (c .before .before .before .before .before .before .args .room .now))
-    (listOf (getD (c .before .before .before .before .before .before .args .t1) ((c .before .before .before .before .before .before .args .start + c .before .before .before .before .before .loop .i) % c .before .before .before .before .before .before .args .transports) zeroList))
+    ≡ frontOf (ready (begun (round c)))
+    (listOf (getD (begun (round c) .args .t1) (transport (round c)) zeroList))
 front-is c =
     c .find-front .ensures .0
-    ∙ ap (λ q. frontOf (readyIn (c .before .before .before .before .before .before .args .pairs .now) (c .before .before .before .before .before .before .args .room .now)) (listOf q)) (same-list (c .before .before .before .before))
+    ∙ ap (λ q. frontOf (ready (begun (round c))) (listOf q)) (same-list (round c))
 
 loop-holds : tie.Need-loop-holds Inv-loop μ-loop
 loop-holds c = (omega arith, λ k l. absurd (not-suc-le-zero l))
 
 add-t : tie.Need-add-t Inv-loop μ-loop
-add-t c = omega (arith, c .loop-test .taken, c .before .before .pre .1, c .before .before .pre .2)
+add-t c = omega (arith, c .loop-test .taken, begun c .pre .1, begun c .pre .2)
 
 rem-t : tie.Need-rem-t Inv-loop μ-loop
 rem-t c = omega (arith, c .loop-test .taken)
 
 mul-q : tie.Need-mul-q Inv-loop μ-loop
-mul-q c = omega (arith, turn-below c, c .before .before .pre .1)
+mul-q c = omega (arith, turn-below c, begun c .pre .1)
 
 array-copy-out-q : tie.Need-array-copy-out-q Inv-loop μ-loop
-array-copy-out-q c = omega (arith, turn-below c, c .before .before .pre .1)
+array-copy-out-q c = omega (arith, turn-below c, begun c .pre .1)
 
 find-front-requires : tie.Need-find-front-requires Inv-loop μ-loop
-find-front-requires c κs = rw (same-list (c .before .before .before)) (c .before .before .before .before .before .pre .4 _ (turn-below (c .before .before .before)))
+find-front-requires c κs = rw (same-list (c .before .before .before)) (begun (c .before .before .before) .pre .4 _ (turn-below (c .before .before .before)))
 
 cast-t21 : tie.Need-cast-t21 Inv-loop μ-loop
-cast-t21 c = omega (arith, turn-below (c .before .before .before .before .before .before), c .before .before .before .before .before .before .before .before .pre .1)
+cast-t21 c = omega (arith, turn-below (round (c .before .before)), begun (round (c .before .before)) .pre .1)
 
 returns : tie.Need-returns Inv-loop μ-loop
 unfolding frontSteps hasFront
-returns c = let e =
-    steps-at (hasFront (readyIn (c .before .before .before .before .before .before .before .before .args .pairs .now) (c .before .before .before .before .before .before .before .before .args .room .now)) (c .before .before .before .before .before .before .before .before .args .t1)) (c .before .before .before .before .before .before .before .before .args .transports) (c .before .before .before .before .before .before .before .before .args .start) (c .before .before .before .before .before .before .before .loop .i) (c .before .before .before .before .before .before .loop-test .taken)
-    (ap (λ z. ltb z 32) (sym (front-is (c .before .before))) ∙ lt-ltb _ 32 (c .if1 .taken)) (c .before .before .before .before .before .before .before .loop .inv .1)
+returns c =
+    let f = c .before .before in
+    let s = begun (round f) in
+    let e =
+    steps-at (hasFront (ready s) (s .args .t1)) (s .args .transports) (s .args .start) (round f .before .loop .i) (round f .loop-test .taken)
+    (ap (λ z. ltb z 32) (sym (front-is f)) ∙ lt-ltb _ 32 (c .if1 .taken)) (round f .before .loop .inv .1)
     in
     record {
-      finds = sym (ap (λ z. ltb z (c .before .before .before .before .before .before .before .before .args .transports)) e ∙ lt-ltb (c .before .before .before .before .before .before .before .loop .i) (c .before .before .before .before .before .before .before .before .args .transports) (c .before .before .before .before .before .before .loop-test .taken));
-      on = λ t. ap (λ z. (c .before .before .before .before .before .before .before .before .args .start + z) % c .before .before .before .before .before .before .before .before .args .transports) (sym e);
-      current = λ t. front-is (c .before .before);
-      ahead = λ t. c .before .before .find-front .ensures .1 (c .if1 .taken)
-          ∙ ap (λ q. aheadOf (c .before .before .before .before .before .before .before .before .args .waits .now) (listOf q) (c .before .before .find-front .result .job)) (same-list (c .before .before .before .before .before .before));
+      finds = sym (ap (λ z. ltb z (s .args .transports)) e ∙ lt-ltb (round f .before .loop .i) (s .args .transports) (round f .loop-test .taken));
+      on = λ t. ap (λ z. (s .args .start + z) % s .args .transports) (sym e);
+      current = λ t. front-is f;
+      ahead = λ t. f .find-front .ensures .1 (c .if1 .taken)
+          ∙ ap (λ q. aheadOf (s .args .waits .now) (listOf q) (f .find-front .result .job)) (same-list (round f));
     }
 
 add-i : tie.Need-add-i Inv-loop μ-loop
-add-i c = omega (arith, c .before .before .before .before .before .before .loop-test .taken, c .before .before .before .before .before .before .before .before .pre .1)
+add-i c = omega (arith, round (c .before .before) .loop-test .taken, begun (round (c .before .before)) .pre .1)
 
 loop-less : tie.Need-loop-less Inv-loop μ-loop
-loop-less c = omega (arith, c .before .before .before .before .before .before .loop-test .taken)
+loop-less c = omega (arith, round (c .before .before) .loop-test .taken)
 
 loop-again : tie.Need-loop-again Inv-loop μ-loop
 unfolding hasFront
-loop-again c = (
-  omega (arith, c .before .before .before .before .before .before .loop-test .taken),
-  below-more (λ k. hasFront (readyIn (c .before .before .before .before .before .before .before .before .args .pairs .now) (c .before .before .before .before .before .before .before .before .args .room .now)) (c .before .before .before .before .before .before .before .before .args .t1) ((c .before .before .before .before .before .before .before .before .args .start + k) % c .before .before .before .before .before .before .before .before .args .transports) ≡ false) (c .before .before .before .before .before .before .before .loop .i) (c .before .before .before .before .before .before .before .loop .inv .1)
-      (ap (λ z. ltb z 32) (sym (front-is (c .before .before))) ∙ le-ltb _ 32 (c .if1 .left)),
-)
+loop-again c =
+    let f = c .before .before in
+    let s = begun (round f) in (
+      omega (arith, round f .loop-test .taken),
+      below-more (λ k. hasFront (ready s) (s .args .t1) ((s .args .start + k) % s .args .transports) ≡ false) (round f .before .loop .i) (round f .before .loop .inv .1)
+          (ap (λ z. ltb z 32) (sym (front-is f)) ∙ le-ltb _ 32 (c .if1 .left)),
+    )
 
 returns-2 : tie.Need-returns-2 Inv-loop μ-loop
 unfolding frontSteps
-returns-2 c = let e =
-    steps-none (hasFront (readyIn (c .before .before .args .pairs .now) (c .before .before .args .room .now)) (c .before .before .args .t1)) (c .before .before .args .transports) (c .before .before .args .start) (λ k m. c .before .loop .inv .1 k (omega (arith, c .loop-test .left, m)))
+returns-2 c =
+    let s = c .before .before in
+    let e =
+    steps-none (hasFront (ready s) (s .args .t1)) (s .args .transports) (s .args .start) (λ k m. c .before .loop .inv .1 k (omega (arith, c .loop-test .left, m)))
     in
     record {
-      finds = sym (ap (λ z. ltb z (c .before .before .args .transports)) e ∙ le-ltb (c .before .before .args .transports) (c .before .before .args .transports) (omega arith));
+      finds = sym (ap (λ z. ltb z (s .args .transports)) e ∙ le-ltb (s .args .transports) (s .args .transports) (omega arith));
       on = λ t. true-not-false t refl;
       current = λ t. true-not-false t refl;
       ahead = λ t. true-not-false t refl;
