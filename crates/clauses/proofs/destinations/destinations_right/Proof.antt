@@ -19,49 +19,57 @@ Inv-loop u destinations held count d₀ d = (allTo (destinationTest u destinatio
 abbrev μ-loop : tie.MeasureT-loop
 μ-loop u destinations held count d₀ d = count - d
 
+-- the start, seen from the loop, and the round that a destination belongs to
+
+abbrev begun : tie.In-loop Inv-loop μ-loop → tie.Start Inv-loop μ-loop
+begun c = c .before .before
+
+abbrev round : tie.After-health-right Inv-loop μ-loop → tie.In-loop Inv-loop μ-loop
+round c = c .before .before .before .before
+
 loop-holds : tie.Need-loop-holds Inv-loop μ-loop
 loop-holds c = (sym (all-none _), omega arith)
 
 mul-x : tie.Need-mul-x Inv-loop μ-loop
-mul-x c = omega (arith, destinations-few _ (c .before .before .pre))
+mul-x c = omega (arith, destinations-few _ (begun c .pre))
 
 array-copy-out-x : tie.Need-array-copy-out-x Inv-loop μ-loop
-array-copy-out-x c = omega (arith, destinations-few _ (c .before .before .pre))
+array-copy-out-x c = omega (arith, destinations-few _ (begun c .pre))
 
 mul-t : tie.Need-mul-t Inv-loop μ-loop
-mul-t c = omega (arith, destinations-few _ (c .before .before .before .pre))
+mul-t c = omega (arith, destinations-few _ (begun (c .before) .pre))
 
 element-copy-out-t : tie.Need-element-copy-out-t Inv-loop μ-loop
-element-copy-out-t c = omega (arith, destinations-few _ (c .before .before .before .pre))
+element-copy-out-t c = omega (arith, destinations-few _ (begun (c .before) .pre))
 
 mul-g : tie.Need-mul-g Inv-loop μ-loop
-mul-g c = omega (arith, home-below _ (c .before .before .before .before .pre) (c .before .before .before .loop .d) (omega arith))
+mul-g c = omega (arith, home-below _ (begun (c .before .before) .pre) (c .before .before .before .loop .d) (omega arith))
 
 element-copy-out-g : tie.Need-element-copy-out-g Inv-loop μ-loop
-element-copy-out-g c = omega (arith, home-below _ (c .before .before .before .before .pre) (c .before .before .before .loop .d) (omega arith))
+element-copy-out-g c = omega (arith, home-below _ (begun (c .before .before) .pre) (c .before .before .before .loop .d) (omega arith))
 
 mul-health-right : tie.Need-mul-health-right Inv-loop μ-loop
-mul-health-right c = omega (arith, destinations-few _ (c .before .before .before .before .before .pre))
+mul-health-right c = omega (arith, destinations-few _ (begun (c .before .before .before) .pre))
 
 array-read-health-right : tie.Need-array-read-health-right Inv-loop μ-loop
-array-read-health-right c = omega (arith, destinations-few _ (c .before .before .before .before .before .pre))
+array-read-health-right c = omega (arith, destinations-few _ (begun (c .before .before .before) .pre))
 
 health-right-requires : tie.Need-health-right-requires Inv-loop μ-loop
-health-right-requires c κs = cohorts-few _ (c .before .before .before .before .before .pre) (c .before .before .before .before .loop .d) (omega arith)
+health-right-requires c κs = cohorts-few _ (begun (c .before .before .before) .pre) (c .before .before .before .before .loop .d) (omega arith)
 
 returns : tie.Need-returns Inv-loop μ-loop
 unfolding destinationTest
-returns c = sym (all-false-of _ _ (c .before .before .before .before .before .before .loop .d) (omega arith) (sym (c .before .health-right .ensures) ∙ not-true _ (c .if1 .taken)))
+returns c = sym (all-false-of _ _ (round (c .before) .before .loop .d) (omega arith) (sym (c .before .health-right .ensures) ∙ not-true _ (c .if1 .taken)))
 
 add-d : tie.Need-add-d Inv-loop μ-loop
-add-d c = omega (arith, destinations-few _ (c .before .before .before .before .before .before .before .pre))
+add-d c = omega (arith, destinations-few _ (begun (round (c .before)) .pre))
 
 loop-less : tie.Need-loop-less Inv-loop μ-loop
-loop-less c = omega (arith, destinations-few _ (c .before .before .before .before .before .before .before .pre))
+loop-less c = omega (arith, destinations-few _ (begun (round (c .before)) .pre))
 
 loop-again : tie.Need-loop-again Inv-loop μ-loop
 unfolding destinationTest
-loop-again c = (all-more _ _ (c .before .before .before .before .before .before .loop .inv .0) (sym (c .before .health-right .ensures) ∙ not-false _ (c .if1 .left)), omega arith)
+loop-again c = (all-more _ _ (round (c .before) .before .loop .inv .0) (sym (c .before .health-right .ensures) ∙ not-false _ (c .if1 .left)), omega arith)
 
 returns-2 : tie.Need-returns-2 Inv-loop μ-loop
 returns-2 c = let e : c .before .loop .d ≡ c .before .before .args .t1 .destinations = omega arith in sym (rw e at (c .before .loop .inv .0))

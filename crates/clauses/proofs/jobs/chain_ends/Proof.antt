@@ -16,6 +16,11 @@ Inv-loop parent link k₀ steps₀ k steps = (endsIn (at parent) 32 link ≡ end
 abbrev μ-loop : tie.MeasureT-loop
 μ-loop parent link k₀ steps₀ k steps = steps
 
+-- the round of the loop, seen from where the parent was read
+
+abbrev round : tie.After-wide Inv-loop μ-loop → tie.At-loop Inv-loop μ-loop
+round c = c .before .before .before
+
 loop-holds : tie.Need-loop-holds Inv-loop μ-loop
 loop-holds c = (refl, omega arith)
 
@@ -32,7 +37,11 @@ sub-p : tie.Need-sub-p Inv-loop μ-loop
 sub-p c = omega arith
 
 returns-2 : tie.Need-returns-2 Inv-loop μ-loop
-returns-2 c = let e : c .before .before .before .before .loop .k ≡ suc (c .before .wide .result - 1) = omega arith in sym (c .before .before .before .before .loop .inv .0 ∙ ends-turn _ (c .before .before .before .before .loop .steps) (c .before .before .before .before .loop .k) (c .before .before .before .before .loop .steps - 1) (c .before .wide .result - 1) (omega arith) e ∙ ends-here _ _ _ (List·getD-eq-default (c .before .before .before .before .before .args .parent .now) 0 (omega arith)))
+returns-2 c =
+    let l = round (c .before) in
+    let e : l .loop .k ≡ suc (c .before .wide .result - 1) = omega arith in
+    sym (l .loop .inv .0 ∙ ends-turn _ (l .loop .steps) (l .loop .k) (l .loop .steps - 1) (c .before .wide .result - 1) (omega arith) e
+    ∙ ends-here _ _ _ (List·getD-eq-default (l .before .args .parent .now) 0 (omega arith)))
 
 element-copy-out-k : tie.Need-element-copy-out-k Inv-loop μ-loop
 element-copy-out-k c = omega arith
@@ -41,7 +50,12 @@ loop-less : tie.Need-loop-less Inv-loop μ-loop
 loop-less c = omega arith
 
 loop-again : tie.Need-loop-again Inv-loop μ-loop
-loop-again c = (let e : c .before .before .before .before .before .loop .k ≡ suc (c .before .before .wide .result - 1) = omega arith in c .before .before .before .before .before .loop .inv .0 ∙ ends-turn _ (c .before .before .before .before .before .loop .steps) (c .before .before .before .before .before .loop .k) (c .before .before .before .before .before .loop .steps - 1) (c .before .before .wide .result - 1) (omega arith) e, omega arith)
+loop-again c =
+    let w = c .before .before in (
+      let e : round w .loop .k ≡ suc (w .wide .result - 1) = omega arith in round w .loop .inv .0
+          ∙ ends-turn _ (round w .loop .steps) (round w .loop .k) (round w .loop .steps - 1) (w .wide .result - 1) (omega arith) e,
+      omega arith,
+    )
 
 returns-3 : tie.Need-returns-3 Inv-loop μ-loop
 returns-3 c = sym (c .before .loop .inv .0 ∙ ends-here _ _ _ (omega arith))

@@ -1,8 +1,9 @@
 -- `clauses::jobs::jobs_right` meets its contract. Invariant: the jobs passed are right.
 use borrow.Author.Needs.{needs}
 use native.Mathlib.Omega.{arith}
-use Prim.Native.Nat.{_+_, _-_, _≤_}
+use Prim.Native.Nat.{ℕ, _+_, _-_, _≤_}
 use mathlib.Core.Path.{_≡_, sym, _∙_, ap}
+use mathlib.Core.List.{List}
 use mathlib.Core.Logic.{⊎-elim}
 use mathlib.Core.Bool.{true, false, _&&_}
 use lib.ListN.{length, getD}
@@ -11,6 +12,7 @@ use borrow.Author.Tests.{not-true, not-false}
 use Rattle.laws.specs.Range.{allTo}
 use Rattle.laws.proofs.All.{all-false-of, all-none, all-more}
 use Rattle.rules.specs.State.{at}
+use Rattle.rules.specs.declared.Jobs.{Jobs}
 use Rattle.rules.specs.State.{zeroSettings}
 use Rattle.rules.specs.Sound.{implies}
 use Rattle.clauses.specs.Clauses.{jobTest}
@@ -27,6 +29,46 @@ Inv-loop g u waiting busy j₀ j = (allTo (λ j. implies (getD (g .present) j fa
 abbrev μ-loop : tie.MeasureT-loop
 μ-loop g u waiting busy j₀ j = 32 - j
 
+-- Places in the loop, each seen from a later one, and what is read there: the round and its job,
+
+abbrev begun : tie.In-loop Inv-loop μ-loop → tie.Start Inv-loop μ-loop
+begun c = c .before .before
+
+abbrev jobs : tie.In-loop Inv-loop μ-loop → Jobs
+jobs c = begun c .args .t1
+
+abbrev settings : tie.In-loop Inv-loop μ-loop → List Settings
+settings c = begun c .args .t2 .settings
+
+abbrev waiting : tie.In-loop Inv-loop μ-loop → List ℕ
+waiting c = begun c .args .t3
+
+abbrev busy : tie.In-loop Inv-loop μ-loop → List ℕ
+busy c = begun c .args .t4
+
+abbrev job : tie.In-loop Inv-loop μ-loop → ℕ
+job c = c .before .loop .j
+
+-- the cost of its transport, its counts, and the last test
+
+abbrev round : tie.Joined2 Inv-loop μ-loop → tie.In-loop Inv-loop μ-loop
+round c = c .before .before .before .before
+
+abbrev costed : tie.After-counts-right Inv-loop μ-loop → tie.Joined2 Inv-loop μ-loop
+costed c = c .before .before .before .before .before .before
+
+abbrev counted : tie.After-child-right Inv-loop μ-loop → tie.After-counts-right Inv-loop μ-loop
+counted c = c .before .before .before .before .before .before .before .before .before .before
+
+abbrev sold : tie.After-child-right Inv-loop μ-loop → tie.After-sold-right Inv-loop μ-loop
+sold c = c .before .before .before .before .before .before .before .before
+
+abbrev tried : tie.After-chain-ends Inv-loop μ-loop → tie.After-child-right Inv-loop μ-loop
+tried c = c .before .before .before
+
+abbrev here : tie.After-chain-ends Inv-loop μ-loop → tie.In-loop Inv-loop μ-loop
+here c = round (costed (counted (tried c)))
+
 present-long : (c : tie.Start Inv-loop μ-loop) → length (c .args .t1 .present) ≡ 32
 present-long c = search needs
 
@@ -36,25 +78,26 @@ parent-long c = search needs
 settings-long : (c : tie.Start Inv-loop μ-loop) → length (c .args .t2 .settings) ≡ 4
 settings-long c = search (needs, length-of-map)
 
-cost-is : (c : tie.Joined2 Inv-loop μ-loop) → c .if2 .cost ≡ getD (c .before .before .before .before .before .before .args .t2 .settings) (getD (c .before .before .before .before .before .before .args .t1 .transport) (c .before .before .before .before .before .loop .j) 0) zeroSettings .cost
+cost-is : (c : tie.Joined2 Inv-loop μ-loop) → c .if2 .cost ≡ getD (settings (round c)) (getD (jobs (round c) .transport) (job (round c)) 0) zeroSettings .cost
 cost-is c =
     ⊎-elim (λ w. w .2)
     (λ w.
     w .1
     ∙ sym
     (ap (λ (g : Settings). g .cost)
-    (List·getD-eq-default (c .before .before .before .before .before .before .args .t2 .settings) zeroSettings {n = getD (c .before .before .before .before .before .before .args .t1 .transport) (c .before .before .before .before .before .loop .j) 0} (omega (arith, settings-long (c .before .before .before .before .before .before), w .0 .left)))))
+    (List·getD-eq-default (settings (round c)) zeroSettings {n = getD (jobs (round c) .transport) (job (round c)) 0} (omega (arith, settings-long (begun (round c)), w .0 .left)))))
     (c .if2 .came)
 
-tested :
-    (c : tie.After-chain-ends Inv-loop μ-loop)
-    → c .before .before .before .before .before .before .before .before .before .before .before .before .before .counts-right .result && c .before .before .before .before .before .before .before .before .before .before .before .sold-right .result && leb 1 (at (c .before .before .before .before .before .before .before .before .before .before .before .before .before .before .before .before .before .before .before .before .before .before .before .before .before .args .t3) (c .before .before .before .before .before .before .before .before .before .before .before .before .before .before .before .before .before .before .before .before .before .before .before .before .loop .j) + at (c .before .before .before .before .before .before .before .before .before .before .before .before .before .before .before .before .before .before .before .before .before .before .before .before .before .args .t4) (c .before .before .before .before .before .before .before .before .before .before .before .before .before .before .before .before .before .before .before .before .before .before .before .before .loop .j)) && c .before .before .before .child-right .result && c .chain-ends .result
-    && leb (at (c .before .before .before .before .before .before .before .before .before .before .before .before .before .before .before .before .before .before .before .before .before .before .before .before .before .args .t1 .overtakers) (c .before .before .before .before .before .before .before .before .before .before .before .before .before .before .before .before .before .before .before .before .before .before .before .before .loop .j)) 65_535 && leb (at (c .before .before .before .before .before .before .before .before .before .before .before .before .before .before .before .before .before .before .before .before .before .before .before .before .before .args .t1 .turn) (c .before .before .before .before .before .before .before .before .before .before .before .before .before .before .before .before .before .before .before .before .before .before .before .before .loop .j)) (at (c .before .before .before .before .before .before .before .before .before .before .before .before .before .before .before .before .before .before .before .before .before .before .before .before .before .args .t1 .places) (c .before .before .before .before .before .before .before .before .before .before .before .before .before .before .before .before .before .before .before .before .before .before .before .before .loop .j))
-    ≡ jobTest (c .before .before .before .before .before .before .before .before .before .before .before .before .before .before .before .before .before .before .before .before .before .before .before .before .before .args .t1) (c .before .before .before .before .before .before .before .before .before .before .before .before .before .before .before .before .before .before .before .before .before .before .before .before .before .args .t2 .settings) (c .before .before .before .before .before .before .before .before .before .before .before .before .before .before .before .before .before .before .before .before .before .before .before .before .before .args .t3) (c .before .before .before .before .before .before .before .before .before .before .before .before .before .before .before .before .before .before .before .before .before .before .before .before .before .args .t4) (c .before .before .before .before .before .before .before .before .before .before .before .before .before .before .before .before .before .before .before .before .before .before .before .before .loop .j)
+tested : (c : tie.After-chain-ends Inv-loop μ-loop)
+    → counted (tried c) .counts-right .result && sold (tried c) .sold-right .result && leb 1 (at (waiting (here c)) (job (here c)) + at (busy (here c)) (job (here c)))
+    && tried c .child-right .result && c .chain-ends .result
+    && leb (at (jobs (here c) .overtakers) (job (here c))) 65_535 && leb (at (jobs (here c) .turn) (job (here c))) (at (jobs (here c) .places) (job (here c)))
+    ≡ jobTest (jobs (here c)) (settings (here c)) (waiting (here c)) (busy (here c)) (job (here c))
 tested c =
-    job-tested (c .before .before .before .before .before .before .before .before .before .before .before .before .before .before .before .before .before .before .before .before .before .before .before .before .before .args .t1) (c .before .before .before .before .before .before .before .before .before .before .before .before .before .before .before .before .before .before .before .before .before .before .before .before .before .args .t2 .settings) (c .before .before .before .before .before .before .before .before .before .before .before .before .before .before .before .before .before .before .before .before .before .before .before .before .before .args .t3) (c .before .before .before .before .before .before .before .before .before .before .before .before .before .before .before .before .before .before .before .before .before .before .before .before .before .args .t4) (c .before .before .before .before .before .before .before .before .before .before .before .before .before .before .before .before .before .before .before .before .before .before .before .before .loop .j) (c .before .before .before .before .before .before .before .before .before .before .before .before .before .before .before .before .before .before .before .if2 .cost) (c .before .before .before .before .before .before .before .before .before .before .before .before .before .counts-right .result)
-    (c .before .before .before .before .before .before .before .before .before .before .before .sold-right .result) (c .before .before .before .child-right .result) (c .chain-ends .result) (c .before .before .before .before .before .before .before .before .before .before .before .before .before .counts-right .ensures) (cost-is (c .before .before .before .before .before .before .before .before .before .before .before .before .before .before .before .before .before .before .before))
-    (c .before .before .before .before .before .before .before .before .before .before .before .sold-right .ensures) (c .before .before .before .child-right .ensures) (c .chain-ends .ensures)
+    let n = counted (tried c) in
+    job-tested (jobs (here c)) (settings (here c)) (waiting (here c)) (busy (here c)) (job (here c)) (costed n .if2 .cost) (n .counts-right .result)
+    (sold (tried c) .sold-right .result) (tried c .child-right .result) (c .chain-ends .result) (n .counts-right .ensures) (cost-is (costed n))
+    (sold (tried c) .sold-right .ensures) (tried c .child-right .ensures) (c .chain-ends .ensures)
 
 loop-holds : tie.Need-loop-holds Inv-loop μ-loop
 loop-holds c = (sym (all-none _), omega arith)
@@ -144,7 +187,7 @@ array-read-c-2 : tie.Need-array-read-c-2 Inv-loop μ-loop
 array-read-c-2 c = omega arith
 
 add-c : tie.Need-add-c Inv-loop μ-loop
-add-c c = omega (arith, c .before .before .before .before .before .before .before .before .before .before .before .before .before .before .pre (c .before .before .before .before .before .before .before .before .before .before .before .before .before .loop .j) (omega arith))
+add-c c = omega (arith, begun (round (costed (c .before .before))) .pre (job (round (costed (c .before .before)))) (omega arith))
 
 mul-f : tie.Need-mul-f Inv-loop μ-loop
 mul-f c = omega arith
@@ -159,13 +202,15 @@ element-copy-out-h-2 : tie.Need-element-copy-out-h-2 Inv-loop μ-loop
 element-copy-out-h-2 c = omega arith
 
 child-right-requires : tie.Need-child-right-requires Inv-loop μ-loop
-child-right-requires c κs = present-long (c .before .before .before .before .before .before .before .before .before .before .before .before .before .before .before .before .before .before .before .before .before)
+child-right-requires c κs = present-long (begun (round (costed (c .before .before .before .before .before .before .before .before .before))))
 
 chain-ends-requires : tie.Need-chain-ends-requires Inv-loop μ-loop
-chain-ends-requires c κs = parent-long (c .before .before .before .before .before .before .before .before .before .before .before .before .before .before .before .before .before .before .before .before .before .before .before .before)
+chain-ends-requires c κs = parent-long (begun (round (costed (counted (c .before .before)))))
 
 returns : tie.Need-returns Inv-loop μ-loop
-returns c = sym (all-false-of _ _ (c .before .before .before .before .before .before .before .before .before .before .before .before .before .before .before .before .before .before .before .before .before .before .before .before .before .loop .j) (omega arith) (asked-false (not-false _ (c .before .before .before .before .before .before .before .before .before .before .before .before .before .before .before .before .before .before .before .before .before .before .if1 .left)) (sym (tested (c .before)) ∙ not-true _ (c .if3 .taken))))
+returns c =
+    sym (all-false-of _ _ (job (here (c .before))) (omega arith)
+    (asked-false (not-false _ (costed (counted (tried (c .before))) .before .before .if1 .left)) (sym (tested (c .before)) ∙ not-true _ (c .if3 .taken))))
 
 add-j-2 : tie.Need-add-j-2 Inv-loop μ-loop
 add-j-2 c = omega arith
@@ -174,7 +219,7 @@ loop-less-2 : tie.Need-loop-less-2 Inv-loop μ-loop
 loop-less-2 c = omega arith
 
 loop-again-2 : tie.Need-loop-again-2 Inv-loop μ-loop
-loop-again-2 c = (all-more _ _ (c .before .before .before .before .before .before .before .before .before .before .before .before .before .before .before .before .before .before .before .before .before .before .before .before .before .loop .inv .0) (asked-true _ (sym (tested (c .before)) ∙ not-false _ (c .if3 .left))), omega arith)
+loop-again-2 c = (all-more _ _ (here (c .before) .before .loop .inv .0) (asked-true _ (sym (tested (c .before)) ∙ not-false _ (c .if3 .left))), omega arith)
 
 returns-2 : tie.Need-returns-2 Inv-loop μ-loop
 returns-2 c = let e : c .before .loop .j ≡ 32 = omega arith in sym (rw e at (c .before .loop .inv .0))
