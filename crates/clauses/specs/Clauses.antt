@@ -1,10 +1,10 @@
--- "Sound means", the clauses of jobs and of destinations, over the columns that the code reads. What they say of a whole state: soundness/proofs/Parts.antt,
--- Whole.antt.
+-- "Sound means", the clauses of jobs and of destinations, over the columns that the code reads. What they say of a whole state:
+-- soundness/proofs/PartsOfSound.antt, SoundOfParts.antt.
 use Prim.Native.Nat.{ℕ, zero, suc, _+_, _*_}
 use mathlib.Core.Bool.{Bool, true, false, _&&_}
 use mathlib.Core.List.{List}
 use lib.ListN.{getD}
-use lib.Dec.{eqb, ltb, leb}
+use lib.Dec.{eqb, leb}
 use Rattle.laws.specs.Chain.{endsIn}
 use Rattle.rules.specs.declared.Settings.{Settings}
 use Rattle.rules.specs.declared.Setup.{Setup}
@@ -12,10 +12,9 @@ use Rattle.rules.specs.declared.Health.{Health}
 use Rattle.rules.specs.declared.Health.the-variants.{Live, Dead}
 use Rattle.rules.specs.declared.Jobs.{Jobs}
 use Rattle.rules.specs.declared.Destination.{Destination}
-use Rattle.rules.specs.Sizes.{U}
 use Rattle.rules.specs.State.{at, zeroSettings, zeroDestination}
 use Rattle.rules.specs.Setup.{within}
-use Rattle.rules.specs.Sound.{implies}
+use Rattle.rules.specs.Sound.{implies, sumsFit}
 
 -- Jobs.
 
@@ -43,13 +42,11 @@ jobTest g settings waiting busy j =
 
 -- Destinations.
 
-unfoldable pub healthTest : ℕ → ℕ → ℕ → Health → Bool
-healthTest limit cohortlimit held (Live u) =
-    within 1 limit (u .window) && ltb (u .success) U && ltb (u .failure) U && leb (u .cohorts) (cohortlimit * U)
-healthTest limit cohortlimit held (Dead end) = eqb held 0
+-- `held` is the number of entries that wait for the destination
+unfoldable pub healthTest : Settings → ℕ → Health → Bool
+healthTest g held (Live u) = sumsFit g u
+healthTest g held (Dead end) = eqb held 0
 
 unfoldable pub destinationTest : Setup → List Destination → List ℕ → ℕ → Bool
 destinationTest u destinations held d =
-    healthTest (getD (u .settings) (at (u .home) d) zeroSettings .limit) (getD (u .settings) (at (u .home) d) zeroSettings .cohortlimit)
-    (at held d)
-    (getD destinations d zeroDestination .health)
+    healthTest (getD (u .settings) (at (u .home) d) zeroSettings) (at held d) (getD destinations d zeroDestination .health)

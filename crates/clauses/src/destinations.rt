@@ -6,12 +6,14 @@ ghost use mathlib.Core.Path.{_≡_};
 ghost use mathlib.Core.Bool.{true, false};
 ghost use Prim.Native.Nat.{_*_, _≤_, _<_};
 ghost use Rattle.laws.specs.Range.{allTo};
+ghost use Rattle.rules.specs.declared.Settings.{Settings};
 ghost use Rattle.rules.specs.Setup.{setupInRange};
 ghost use Rattle.clauses.specs.Clauses.{healthTest, destinationTest};
 
+// Of the settings, the two limits that the test of a health asks for.
 fn health_right(h: Health, limit: u64, cohortlimit: u64, held: u16) -> bool
     requires { ⌜ cohortlimit ≤ 100 ⌝ }
-    ensures { λ r. ⌜ r ≡ healthTest limit cohortlimit held h ⌝ }
+    ensures { λ r. ⌜ ((g : Settings) → g .limit ≡ limit → g .cohortlimit ≡ cohortlimit → r ≡ healthTest g held h) ⌝ }
 {
     match h {
         Health::Live(u) => {

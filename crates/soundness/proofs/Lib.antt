@@ -1,3 +1,3 @@
 pub mod Counted
-pub mod Parts
-pub mod Whole
+pub mod PartsOfSound
+pub mod SoundOfParts

@@ -1,12 +1,13 @@
 -- `clauses::destinations::destinations_right` meets its contract. Invariant: the destinations passed are right.
 use native.Mathlib.Omega.{arith}
 use Prim.Native.Nat.{_-_, _≤_}
-use mathlib.Core.Path.{_≡_, sym, _∙_}
+use mathlib.Core.Path.{_≡_, refl, sym, _∙_}
 use mathlib.Core.Bool.{true}
+use lib.ListN.{getD}
 use borrow.Author.Tests.{not-true, not-false}
 use Rattle.laws.specs.Range.{allTo}
 use Rattle.laws.proofs.All.{all-false-of, all-none, all-more}
-use Rattle.rules.specs.State.{at}
+use Rattle.rules.specs.State.{at, zeroSettings}
 use Rattle.clauses.specs.Clauses.{destinationTest}
 use Rattle.rules.proofs.RangeFacts.{home-below}
 use Rattle.clauses.proofs.Ranges.{destinations-few, cohorts-few}
@@ -26,6 +27,14 @@ begun c = c .before .before
 
 abbrev round : tie.After-health-right Inv-loop μ-loop → tie.In-loop Inv-loop μ-loop
 round c = c .before .before .before .before
+
+-- the test of the round's destination, by the settings of its transport
+tested : (c : tie.After-health-right Inv-loop μ-loop)
+    → c .health-right .result ≡ destinationTest (begun (round c) .args .t1) (begun (round c) .args .t2) (begun (round c) .args .t3) (round c .before .loop .d)
+unfolding destinationTest
+tested c =
+    let u = begun (round c) .args .t1 in
+    c .health-right .ensures (getD (u .settings) (at (u .home) (round c .before .loop .d)) zeroSettings) refl refl
 
 loop-holds : tie.Need-loop-holds Inv-loop μ-loop
 loop-holds c = (sym (all-none _), omega arith)
@@ -58,8 +67,7 @@ health-right-requires : tie.Need-health-right-requires Inv-loop μ-loop
 health-right-requires c κs = cohorts-few _ (begun (c .before .before .before) .pre) (c .before .before .before .before .loop .d) (omega arith)
 
 returns : tie.Need-returns Inv-loop μ-loop
-unfolding destinationTest
-returns c = sym (all-false-of _ _ (round (c .before) .before .loop .d) (omega arith) (sym (c .before .health-right .ensures) ∙ not-true _ (c .if1 .taken)))
+returns c = sym (all-false-of _ _ (round (c .before) .before .loop .d) (omega arith) (sym (tested (c .before)) ∙ not-true _ (c .if1 .taken)))
 
 add-d : tie.Need-add-d Inv-loop μ-loop
 add-d c = omega (arith, destinations-few _ (begun (round (c .before)) .pre))
@@ -68,8 +76,7 @@ loop-less : tie.Need-loop-less Inv-loop μ-loop
 loop-less c = omega (arith, destinations-few _ (begun (round (c .before)) .pre))
 
 loop-again : tie.Need-loop-again Inv-loop μ-loop
-unfolding destinationTest
-loop-again c = (all-more _ _ (round (c .before) .before .loop .inv .0) (sym (c .before .health-right .ensures) ∙ not-false _ (c .if1 .left)), omega arith)
+loop-again c = (all-more _ _ (round (c .before) .before .loop .inv .0) (sym (tested (c .before)) ∙ not-false _ (c .if1 .left)), omega arith)
 
 returns-2 : tie.Need-returns-2 Inv-loop μ-loop
 returns-2 c = let e : c .before .loop .d ≡ c .before .before .args .t1 .destinations = omega arith in sym (rw e at (c .before .loop .inv .0))

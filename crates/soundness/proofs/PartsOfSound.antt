@@ -18,13 +18,12 @@ use Rattle.laws.proofs.Sequence.{every-from}
 use Rattle.rules.specs.declared.Health.{Health}
 use Rattle.rules.specs.declared.Health.the-variants.{Live, Dead}
 use Rattle.rules.specs.declared.State.{State}
-use Rattle.rules.specs.Sizes.{U}
 use Rattle.rules.specs.State.{at, settingsFor, transportOf, healthOf, zeroList, listOf, isFree, isWaiting, isBusy}
 use Rattle.rules.specs.State.{jobOf, destinationOf, isPresent, hasPreempted, waitsOf, busyOf, usedOf, waitingOf, parentOf}
 use Rattle.rules.specs.Setup.{setupInRange}
 use Rattle.rules.specs.Sound.{implies, isJobOn, orderOf, costOf, sound}
 use Rattle.rules.specs.SoundFacts.{EntrySound, ChildOf, DestinationSound}
-use Rattle.rules.proofs.RangeFacts.{within-of, implies-of, in-range-of}
+use Rattle.rules.proofs.RangeFacts.{within-of, implies-of, in-range-of, sums-fit-of}
 use Rattle.rules.proofs.Soundness.{sound-facts}
 use Rattle.counting.specs.declared.EntryCounts.{EntryCounts}
 use Rattle.listing.specs.Listing.{orderList, distinct, orderTest}
@@ -180,7 +179,8 @@ module _ (s : State) (table : List Bool) (r : EntryCounts) (tables : Tables (col
       (and-both
       (and-both
       (and-both
-      (and-both (and-both (eq-eqb (w + picked + dropped) n (omega (arith, f .adds, waiting-is s table r tables j l))) (within-of (f .n))) (le-leb b picked (omega (arith, f .busy, busy-is s table r tables j l))))
+      (and-both (and-both (eq-eqb (w + picked + dropped) n (omega (arith, f .adds, waiting-is s table r tables j l))) (within-of (f .n)))
+      (le-leb b picked (omega (arith, f .busy, busy-is s table r tables j l))))
       (and-both (le-leb (costOf s j * sold) n (f .sold)) (implies-of (eqb (costOf s j) 0) λ z. eq-eqb sold 0 (f .unsold (eqb-true (costOf s j) 0 z)))))
       (le-leb 1 (w + b) (used-counted h j l (sound-facts s h .used j l p))))
       (child-of j (parentOf s j) (f .parent)))
@@ -190,12 +190,9 @@ module _ (s : State) (table : List Bool) (r : EntryCounts) (tables : Tables (col
 
   -- Destinations.
 
-  health-of : (d : ℕ) → d < 32 → (h : Health) → healthOf s d ≡ h → DestinationSound s d → healthTest (settingsFor s d .limit) (settingsFor s d .cohortlimit) (at (r .held) d) h ≡ true
+  health-of : (d : ℕ) → d < 32 → (h : Health) → healthOf s d ≡ h → DestinationSound s d → healthTest (settingsFor s d) (at (r .held) d) h ≡ true
   unfolding healthTest
-  health-of d l (Live u) e f =
-      let k = f .live u e in
-      and-both (and-both (and-both (within-of (k .window)) (lt-ltb (u .success) U (k .success))) (lt-ltb (u .failure) U (k .failure)))
-      (le-leb (u .cohorts) (settingsFor s d .cohortlimit * U) (k .cohorts))
+  health-of d l (Live u) e f = sums-fit-of (settingsFor s d) u (f .live u e)
   health-of d l (Dead end) e f =
       eq-eqb (at (r .held) d) 0
       (held-is s table r tables d l

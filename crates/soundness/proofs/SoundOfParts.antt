@@ -18,13 +18,12 @@ use Rattle.laws.proofs.All.{all-at, any-of}
 use Rattle.laws.proofs.Count.{count-zero-at, count-witness}
 use Rattle.laws.proofs.Sequence.{every-at}
 use Rattle.rules.specs.declared.State.{State}
-use Rattle.rules.specs.Sizes.{U}
 use Rattle.rules.specs.State.{at, settingsFor, transportOf, healthOf, zeroList, listOf, queueOf, isFree, isWaiting, isBusy}
 use Rattle.rules.specs.State.{jobOf, destinationOf, isPresent, hasPreempted, waitsOf, busyOf, usedOf, waitingOf, parentOf}
 use Rattle.rules.specs.Setup.{within, setupInRange}
 use Rattle.rules.specs.Sound.{implies, isJobOn, orderOf, costOf, sound}
 use Rattle.rules.specs.SoundFacts.{InRange, EntrySound, QueueSound, ArrivalsSound, ChildOf, JobSound, DestinationSound}
-use Rattle.rules.proofs.RangeFacts.{within-facts, implies-at, in-range-facts}
+use Rattle.rules.proofs.RangeFacts.{within-facts, implies-at, in-range-facts, sums-fit-facts}
 use Rattle.rules.proofs.Soundness.{sound-of}
 use Rattle.counting.specs.declared.EntryCounts.{EntryCounts}
 use Rattle.listing.specs.Listing.{orderList, distinct, orderTest}
@@ -34,7 +33,7 @@ use Rattle.listing.specs.Listing.{queueTest}
 use Rattle.clauses.specs.Clauses.{healthTest, destinationTest}
 use Rattle.clauses.proofs.JobLaws.{child-near}
 use Rattle.soundness.proofs.Counted.{columnsOf, waiting-is, busy-is, held-is, to-is, on-is}
-use Rattle.soundness.proofs.Parts.{part-destinations}
+use Rattle.soundness.proofs.PartsOfSound.{part-destinations}
 
 module _ (s : State) where
   -- Orders.
@@ -186,22 +185,13 @@ module _ (s : State) where
 
       -- Destinations.
 
-      health-facts : (d : ℕ) → d < 32 → healthTest (settingsFor s d .limit) (settingsFor s d .cohortlimit) (at (r .held) d) (healthOf s d) ≡ true → DestinationSound s d
+      health-facts : (d : ℕ) → d < 32 → healthTest (settingsFor s d) (at (r .held) d) (healthOf s d) ≡ true → DestinationSound s d
       unfolding healthTest
       health-facts d l h =
           record {
-            live = λ u e.
-                (let k =
-                and-4 (within 1 (settingsFor s d .limit) (u .window)) (ltb (u .success) U) (ltb (u .failure) U) (leb (u .cohorts) (settingsFor s d .cohortlimit * U))
-                (ap (healthTest (settingsFor s d .limit) (settingsFor s d .cohortlimit) (at (r .held) d)) (sym e) ∙ h) in
-                record {
-                  window = within-facts (k .0);
-                  success = ltb-true (u .success) U (k .1);
-                  failure = ltb-true (u .failure) U (k .2);
-                  cohorts = leb-true (u .cohorts) (settingsFor s d .cohortlimit * U) (k .3);
-                });
+            live = λ u e. sums-fit-facts (settingsFor s d) u (ap (healthTest (settingsFor s d) (at (r .held) d)) (sym e) ∙ h);
             dead = λ end e x b t q.
-                (let z = eqb-true (at (r .held) d) 0 (ap (healthTest (settingsFor s d .limit) (settingsFor s d .cohortlimit) (at (r .held) d)) (sym e) ∙ h) in
+                (let z = eqb-true (at (r .held) d) 0 (ap (healthTest (settingsFor s d) (at (r .held) d)) (sym e) ∙ h) in
                 true-not-false (and-both t (eq-eqb (destinationOf s x) d q))
                 (count-zero-at (λ e. isWaiting s e && eqb (destinationOf s e) d) 512 (sym (held-is s table r tables d l) ∙ z) x b));
           }
