@@ -79,7 +79,8 @@ module _ (p : ℕ → Bool) (l : List ℕ) (n : ℕ) (left : List Bool) (s : Lef
 
 pub left-done : (p : ℕ → Bool) (l : List ℕ) (n : ℕ) (left : List Bool) → Left p l n left → n ≤ length l → not (anyTo (λ x. getD left x false) 32) ≡ holdsEachOnce p 32 (take n l)
 left-done p l n left s fits =
-    bool-same (λ h. once-of p 32 (take n l) (whole (any-false-at (λ x. getD left x false) 32 (not-true (anyTo (λ x. getD left x false) 32) h)))) λ h. not-is-true (any-none (λ x. getD left x false) 32 (none (once-facts p 32 (take n l) h)))
+    bool-same (λ h. once-of p 32 (take n l) (whole (any-false-at (λ x. getD left x false) 32 (not-true (anyTo (λ x. getD left x false) 32) h))))
+    λ h. not-is-true (any-none (λ x. getD left x false) 32 (none (once-facts p 32 (take n l) h)))
   where
     none : EachOnce p 32 (take n l) → (x : ℕ) → x < 32 → getD left x false ≡ false
     none r x b =
@@ -99,7 +100,8 @@ left-done p l n left s fits =
           once = λ x b t. times-take x l 0 n fits ∙ omega (arith, s .rest x b, one-false (none x b), one-true t);
         }
 
-pub once-tested : (p : ℕ → Bool) (l : List ℕ) (n count : ℕ) (left : List Bool) (r : Bool) → r ≡ anyTo (λ x. getD left x false) 32 → Left p l n left → n ≡ count → count ≤ 32 → count ≤ length l → not r ≡ leb count 32 && holdsEachOnce p 32 (take count l)
+pub once-tested : (p : ℕ → Bool) (l : List ℕ) (n count : ℕ) (left : List Bool) (r : Bool) → r ≡ anyTo (λ x. getD left x false) 32 → Left p l n left → n ≡ count → count ≤ 32
+    → count ≤ length l → not r ≡ leb count 32 && holdsEachOnce p 32 (take count l)
 once-tested p l n count left r e s q few fits =
     rw (le-leb count 32 few, e, ← q) (left-done p l n left s (omega arith))
 

@@ -39,7 +39,8 @@ element-copy-out-result : tie.Need-element-copy-out-result
 element-copy-out-result c = search needs
 
 returns-4 : tie.Need-returns-4
-returns-4 c = belongs-is _ _ _ _ _ _ _ (c .before .wide .result) (c .before .wide .ensures .0) (c .before .before .before .before .before .before .if2 .left) (not-false _ (c .before .before .before .if3 .left))
+returns-4 c =
+    belongs-is _ _ _ _ _ _ _ (c .before .wide .result) (c .before .wide .ensures .0) (c .before .before .before .before .before .before .if2 .left) (not-false _ (c .before .before .before .if3 .left))
 
 pub belongs-spec : {M : Type 1} → statement M
 belongs-spec =

@@ -19,7 +19,14 @@ loop-holds : tie.Need-loop-holds Inv-loop μ-loop
 loop-holds c = (omega arith, length-replicate {A = ℕ} 32 0, λ d l. getD-replicate 32 d 0 0 l ∙ sum-nothing _)
 
 add-row-requires : tie.Need-add-row-requires Inv-loop μ-loop
-add-row-requires c κs = (omega arith, (c .before .before .loop .inv .1, λ d l. sum-fits _ (c .before .before .loop .j) 32 (at (c .before .before .loop .sums) d) 65535 (omega arith) (c .before .before .loop .inv .2 d l) (c .before .before .before .pre d l)))
+add-row-requires c κs = (
+  omega arith,
+  (
+    c .before .before .loop .inv .1,
+    λ d l. sum-fits _ (c .before .before .loop .j) 32
+        (at (c .before .before .loop .sums) d) 65535 (omega arith) (c .before .before .loop .inv .2 d l) (c .before .before .before .pre d l),
+  ),
+)
 
 add-j : tie.Need-add-j Inv-loop μ-loop
 add-j c = omega arith

@@ -12,36 +12,45 @@ use Rattle.counting.proofs.count_entries.Statement.{statement}
 use Rattle.counting.proofs.count_entries.Tie as tie
 
 abbrev Inv-loop : tie.InvT-loop
-Inv-loop kind job destination present transport home destinations marked pairs₀ busy₀ to₀ on₀ e₀ pairs busy to on e = Counted (columns kind job destination present transport home destinations marked) e pairs busy to on × (e ≤ 512)
+Inv-loop kind job destination present transport home destinations marked pairs₀ busy₀ to₀ on₀ e₀ pairs busy to on e =
+    Counted (columns kind job destination present transport home destinations marked) e pairs busy to on × (e ≤ 512)
 
 abbrev μ-loop : tie.MeasureT-loop
 μ-loop kind job destination present transport home destinations marked pairs₀ busy₀ to₀ on₀ e₀ pairs busy to on e = 512 - e
 
 -- Once an entry has passed its tests: the arguments, its job and its destination, and what the tests say of them.
 
+-- The round of the loop, seen from where its job was read, and that from past the entry's test.
+
+abbrev looped : tie.After-wide Inv-loop μ-loop → tie.At-loop Inv-loop μ-loop
+looped c = c .before .before .before .before .before
+
+abbrev read : tie.Else2 Inv-loop μ-loop → tie.After-wide Inv-loop μ-loop
+read c = c .before .before .before .before
+
 abbrev begun : tie.Else2 Inv-loop μ-loop → tie.Start Inv-loop μ-loop
-begun c = c .before .before .before .before .before .before .before .before .before .before
+begun c = looped (read c) .before
 
 abbrev job : tie.Else2 Inv-loop μ-loop → ℕ
-job c = c .before .before .before .before .wide .result
+job c = read c .wide .result
 
 abbrev destination : tie.Else2 Inv-loop μ-loop → ℕ
 destination c = c .before .before .wide2 .result
 
 inside : (c : tie.Else2 Inv-loop μ-loop) → (job c < 32) × (destination c < begun c .args .destinations) × (destination c < 32)
 inside c =
-    counted-inside _ _ _ _ _ _ (c .before .before .before .before .before .before .before .before .before .loop .inv .0)
-    (c .before .before .before .before .before .before .if1 .left)
+    counted-inside _ _ _ _ _ _ (looped (read c) .loop .inv .0)
+    (read c .before .before .if1 .left)
     (job c) (destination c)
-    (c .before .before .before .before .wide .ensures .0) (c .before .before .wide2 .ensures .0) _
+    (read c .wide .ensures .0) (c .before .before .wide2 .ensures .0) _
     (c .before .belongs .ensures) (not-false _ (c .if2 .left)) (begun c .pre .1 .0) (begun c .pre .0)
 
-kind-few : (c : tie.Else2 Inv-loop μ-loop) → at (begun c .args .kind .now) (c .before .before .before .before .before .before .before .before .before .loop .e) ≤ 2
+kind-few : (c : tie.Else2 Inv-loop μ-loop) → at (begun c .args .kind .now) (looped (read c) .loop .e) ≤ 2
 kind-few c =
-    counted-kind _ _ _ _ _ _ (c .before .before .before .before .before .before .before .before .before .loop .inv .0)
-    (c .before .before .before .before .before .before .if1 .left)
+    counted-kind _ _ _ _ _ _ (looped (read c) .loop .inv .0)
+    (read c .before .before .if1 .left)
     (job c) (destination c)
-    (c .before .before .before .before .wide .ensures .0) (c .before .before .wide2 .ensures .0) _
+    (read c .wide .ensures .0) (c .before .before .wide2 .ensures .0) _
     (c .before .belongs .ensures) (not-false _ (c .if2 .left)) (begun c .pre .1 .0) (begun c .pre .0)
 
 home-below : (c : tie.Else2 Inv-loop μ-loop) → at (begun c .args .home .now) (destination c) < 4
@@ -75,11 +84,11 @@ wide-requires-2 : tie.Need-wide-requires-2 Inv-loop μ-loop
 wide-requires-2 c κs = tt
 
 belongs-requires : tie.Need-belongs-requires Inv-loop μ-loop
-belongs-requires c κs = (c .before .before .before .before .before .before .before .before .pre .0, c .before .before .before .before .before .before .before .before .pre .1 .0)
+belongs-requires c κs = (looped (c .before .before) .before .pre .0, looped (c .before .before) .before .pre .1 .0)
 
 returns : tie.Need-returns Inv-loop μ-loop
 returns c = (
-  counted-not _ _ _ _ _ _ (c .before .before .before .before .before .before .before .before .before .before .loop .inv .0)
+  counted-not _ _ _ _ _ _ (looped (c .before .before .before .before .before) .loop .inv .0)
       (c .before .before .before .before .before .before .before .if1 .left)
       (c .before .before .before .before .before .wide .result) (c .before .before .before .wide2 .result)
       (c .before .before .before .before .before .wide .ensures .0) (c .before .before .before .wide2 .ensures .0) _
@@ -100,7 +109,7 @@ element-copy-out-pairs : tie.Need-element-copy-out-pairs Inv-loop μ-loop
 element-copy-out-pairs c = omega (arith, inside (c .before))
 
 add-pairs-2 : tie.Need-add-pairs-2 Inv-loop μ-loop
-add-pairs-2 c = counts-room _ _ _ _ _ _ (c .before .before .before .before .before .before .before .before .before .before .before .loop .inv .0 .pairs) _ (omega (arith, inside (c .before .before))) (omega arith)
+add-pairs-2 c = counts-room _ _ _ _ _ _ (looped (read (c .before .before)) .loop .inv .0 .pairs) _ (omega (arith, inside (c .before .before))) (omega arith)
 
 element-write-pairs : tie.Need-element-write-pairs Inv-loop μ-loop
 element-write-pairs c = omega (arith, inside (c .before .before))
@@ -113,10 +122,10 @@ loop-less-2 c = omega arith
 
 loop-again-2 : tie.Need-loop-again-2 Inv-loop μ-loop
 loop-again-2 c = (
-  counted-waiting _ _ _ _ _ _ (c .before .before .before .before .before .before .before .before .before .before .before .loop .inv .0)
-      (c .before .before .before .before .before .before .before .before .if1 .left)
+  counted-waiting _ _ _ _ _ _ (looped (read (c .before .before)) .loop .inv .0)
+      (read (c .before .before) .before .before .if1 .left)
       (job (c .before .before)) (destination (c .before .before))
-      (c .before .before .before .before .before .before .wide .ensures .0) (c .before .before .before .before .wide2 .ensures .0) _
+      (read (c .before .before) .wide .ensures .0) (c .before .before .before .before .wide2 .ensures .0) _
       (c .before .before .before .belongs .ensures) (not-false _ (c .before .before .if2 .left)) (begun (c .before .before) .pre .1 .0) (begun (c .before .before) .pre .0)
       (c .before .if3 .taken),
   omega arith,
@@ -135,7 +144,7 @@ array-read-busy : tie.Need-array-read-busy Inv-loop μ-loop
 array-read-busy c = omega (arith, inside (c .before .before))
 
 add-busy : tie.Need-add-busy Inv-loop μ-loop
-add-busy c = omega (arith, counts-within _ _ _ _ _ _ (c .before .before .before .before .before .before .before .before .before .before .before .loop .inv .0 .busy) (job (c .before .before)) (inside (c .before .before) .0))
+add-busy c = omega (arith, counts-within _ _ _ _ _ _ (looped (read (c .before .before)) .loop .inv .0 .busy) (job (c .before .before)) (inside (c .before .before) .0))
 
 array-write-busy : tie.Need-array-write-busy Inv-loop μ-loop
 array-write-busy c = omega (arith, inside (c .before .before))
@@ -147,7 +156,7 @@ array-read-to : tie.Need-array-read-to Inv-loop μ-loop
 array-read-to c = omega (arith, inside (c .before .before))
 
 add-to : tie.Need-add-to Inv-loop μ-loop
-add-to c = omega (arith, counts-within _ _ _ _ _ _ (c .before .before .before .before .before .before .before .before .before .before .before .loop .inv .0 .to) (destination (c .before .before)) (omega (arith, inside (c .before .before))))
+add-to c = omega (arith, counts-within _ _ _ _ _ _ (looped (read (c .before .before)) .loop .inv .0 .to) (destination (c .before .before)) (omega (arith, inside (c .before .before))))
 
 array-write-to : tie.Need-array-write-to Inv-loop μ-loop
 array-write-to c = omega (arith, inside (c .before .before))
@@ -159,7 +168,7 @@ array-read-on : tie.Need-array-read-on Inv-loop μ-loop
 array-read-on c = omega (arith, home-below (c .before .before))
 
 add-on : tie.Need-add-on Inv-loop μ-loop
-add-on c = omega (arith, counts-within _ _ _ _ _ _ (c .before .before .before .before .before .before .before .before .before .before .before .loop .inv .0 .on) _ (home-below (c .before .before)))
+add-on c = omega (arith, counts-within _ _ _ _ _ _ (looped (read (c .before .before)) .loop .inv .0 .on) _ (home-below (c .before .before)))
 
 array-write-on : tie.Need-array-write-on Inv-loop μ-loop
 array-write-on c = omega (arith, home-below (c .before .before))
@@ -172,12 +181,12 @@ loop-less-3 c = omega arith
 
 loop-again-3 : tie.Need-loop-again-3 Inv-loop μ-loop
 loop-again-3 c = (
-  counted-busy _ _ _ _ _ _ (c .before .before .before .before .before .before .before .before .before .before .before .loop .inv .0)
-      (c .before .before .before .before .before .before .before .before .if1 .left)
+  counted-busy _ _ _ _ _ _ (looped (read (c .before .before)) .loop .inv .0)
+      (read (c .before .before) .before .before .if1 .left)
       (job (c .before .before)) (destination (c .before .before))
-      (c .before .before .before .before .before .before .wide .ensures .0) (c .before .before .before .before .wide2 .ensures .0) _
+      (read (c .before .before) .wide .ensures .0) (c .before .before .before .before .wide2 .ensures .0) _
       (c .before .before .before .belongs .ensures) (not-false _ (c .before .before .if2 .left)) (begun (c .before .before) .pre .1 .0) (begun (c .before .before) .pre .0)
-      (omega (arith, kind-few (c .before .before), c .before .if3 .left, c .before .before .before .before .before .before .before .before .if1 .left)) (home-below (c .before .before)),
+      (omega (arith, kind-few (c .before .before), c .before .if3 .left, read (c .before .before) .before .before .if1 .left)) (home-below (c .before .before)),
   omega arith,
 )
 
@@ -188,7 +197,13 @@ column-sums-requires : tie.Need-column-sums-requires Inv-loop μ-loop
 column-sums-requires c κs = λ d l. (let f = counted-column-fits _ _ _ _ _ _ (c .before .before .before .before .loop .inv .0) d l in omega (arith, f))
 
 returns-2 : tie.Need-returns-2 Inv-loop μ-loop
-returns-2 c = let e : c .before .before .before .before .before .loop .e ≡ 512 = omega arith in let s = rw e at (c .before .before .before .before .before .loop .inv .0) in (counted-done _ _ refl _ s (c .before .before .row-sums .ensures .0) (c .before .before .row-sums .ensures .1) (c .column-sums .ensures .0) (c .column-sums .ensures .1), record { counted = λ _. s .pairs; none = λ f. true-not-false refl f })
+returns-2 c =
+    let e : c .before .before .before .before .before .loop .e ≡ 512 = omega arith in
+    let s = rw e at (c .before .before .before .before .before .loop .inv .0) in (
+      counted-done _ _ refl _ s (c .before .before .row-sums .ensures .0) (c .before .before .row-sums .ensures .1)
+          (c .column-sums .ensures .0) (c .column-sums .ensures .1),
+      record { counted = λ _. s .pairs; none = λ f. true-not-false refl f },
+    )
 
 pub count-entries-spec : {M : Type 1} → statement M
 count-entries-spec =

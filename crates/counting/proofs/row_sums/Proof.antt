@@ -34,7 +34,11 @@ loop-less : tie.Need-loop-less Inv-loop μ-loop
 loop-less c = omega arith
 
 loop-again : tie.Need-loop-again Inv-loop μ-loop
-loop-again c = (omega arith, length-set (c .before .before .loop .sums) (c .before .before .loop .j) _ ∙ c .before .before .loop .inv .1, set-more _ (c .before .before .loop .sums) (c .before .before .loop .j) _ 0 (omega arith) (c .before .before .loop .inv .2) (c .row-sum .ensures))
+loop-again c = (
+  omega arith,
+  length-set (c .before .before .loop .sums) (c .before .before .loop .j) _ ∙ c .before .before .loop .inv .1,
+  set-more _ (c .before .before .loop .sums) (c .before .before .loop .j) _ 0 (omega arith) (c .before .before .loop .inv .2) (c .row-sum .ensures),
+)
 
 returns : tie.Need-returns Inv-loop μ-loop
 returns c = (c .before .loop .inv .1, λ j l. c .before .loop .inv .2 j (omega arith))

@@ -15,6 +15,11 @@ Inv-loop order job places table₀ k₀ table k = Seen (λ i. at order (32 * job
 abbrev μ-loop : tie.MeasureT-loop
 μ-loop order job places table₀ k₀ table k = places - k
 
+-- the round of the loop, seen from its test
+
+abbrev round : tie.After-if12 Inv-loop μ-loop → tie.In-loop Inv-loop μ-loop
+round c = c .before .before .before
+
 loop-holds : tie.Need-loop-holds Inv-loop μ-loop
 loop-holds c = (seen-none _ _ _ (c .pre .1 .0) (c .pre .1 .1), omega arith)
 
@@ -41,7 +46,9 @@ element-copy-out-if1 c = omega arith
 
 returns : tie.Need-returns Inv-loop μ-loop
 unfolding orderList
-returns c = seen-twice _ _ _ _ _ (c .before .before .before .before .before .loop .inv .0) (c .before .before .wide .result) (c .before .before .wide .ensures .0) (c .before .before .wide .ensures .1) (omega arith) (c .before .before .before .before .before .before .args .places) (omega arith) (c .if1 .taken)
+returns c =
+    seen-twice _ _ _ _ _ (round (c .before) .before .loop .inv .0) (c .before .before .wide .result) (c .before .before .wide .ensures .0)
+    (c .before .before .wide .ensures .1) (omega arith) (round (c .before) .before .before .args .places) (omega arith) (c .if1 .taken)
 
 mul-table : tie.Need-mul-table Inv-loop μ-loop
 mul-table c = omega arith
@@ -59,7 +66,11 @@ loop-less : tie.Need-loop-less Inv-loop μ-loop
 loop-less c = omega arith
 
 loop-again : tie.Need-loop-again Inv-loop μ-loop
-loop-again c = (seen-more _ _ _ _ _ (c .before .before .before .before .before .loop .inv .0) (c .before .before .wide .result) (c .before .before .wide .ensures .0) (c .before .before .wide .ensures .1) (omega arith) (c .if1 .left), omega arith)
+loop-again c = (
+  seen-more _ _ _ _ _ (round (c .before) .before .loop .inv .0) (c .before .before .wide .result)
+      (c .before .before .wide .ensures .0) (c .before .before .wide .ensures .1) (omega arith) (c .if1 .left),
+  omega arith,
+)
 
 returns-2 : tie.Need-returns-2 Inv-loop μ-loop
 unfolding orderList

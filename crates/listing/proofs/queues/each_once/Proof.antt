@@ -18,6 +18,14 @@ Inv-loop q count left₀ i₀ left i = Left (λ x. getD left₀ x false) (q .job
 abbrev μ-loop : tie.MeasureT-loop
 μ-loop q count left₀ i₀ left i = count - i
 
+-- the start, seen from the loop, and the round that a job belongs to
+
+abbrev begun : tie.At-loop Inv-loop μ-loop → tie.Start Inv-loop μ-loop
+begun c = c .before .before .before
+
+abbrev looped : tie.After-wide2 Inv-loop μ-loop → tie.At-loop Inv-loop μ-loop
+looped c = c .before .before .before
+
 jobs-long : (c : tie.Start Inv-loop μ-loop) → length (c .args .t1 .jobs) ≡ 32
 jobs-long c = search needs
 
@@ -37,13 +45,19 @@ wide-requires-2 : tie.Need-wide-requires-2 Inv-loop μ-loop
 wide-requires-2 c κs = search needs
 
 returns-2 : tie.Need-returns-2 Inv-loop μ-loop
-returns-2 c = sym (and-right-false (leb (c .before .before .before .before .before .before .before .args .t1 .count) 32) (left-out _ _ _ _ (c .before .before .before .before .loop .inv .0) (c .before .wide2 .result) (c .before .wide2 .ensures .0) (c .before .before .before .before .before .before .before .args .t1 .count) (omega arith) (omega (arith, jobs-long (c .before .before .before .before .before .before .before))) (omega arith)))
+returns-2 c =
+    sym (and-right-false (leb (begun (looped (c .before)) .args .t1 .count) 32)
+    (left-out _ _ _ _ (looped (c .before) .loop .inv .0) (c .before .wide2 .result) (c .before .wide2 .ensures .0)
+    (begun (looped (c .before)) .args .t1 .count) (omega arith) (omega (arith, jobs-long (begun (looped (c .before))))) (omega arith)))
 
 array-read-if3 : tie.Need-array-read-if3 Inv-loop μ-loop
 array-read-if3 c = omega arith
 
 returns-3 : tie.Need-returns-3 Inv-loop μ-loop
-returns-3 c = sym (and-right-false (leb (c .before .before .before .before .before .before .before .before .args .t1 .count) 32) (left-gone _ _ _ _ (c .before .before .before .before .before .loop .inv .0) (c .before .before .wide2 .result) (c .before .before .wide2 .ensures .0) (c .before .before .before .before .before .before .before .before .args .t1 .count) (omega arith) (omega (arith, jobs-long (c .before .before .before .before .before .before .before .before))) (omega arith) (not-true _ (c .if3 .taken))))
+returns-3 c =
+    sym (and-right-false (leb (begun (looped (c .before .before)) .args .t1 .count) 32)
+    (left-gone _ _ _ _ (looped (c .before .before) .loop .inv .0) (c .before .before .wide2 .result) (c .before .before .wide2 .ensures .0)
+    (begun (looped (c .before .before)) .args .t1 .count) (omega arith) (omega (arith, jobs-long (begun (looped (c .before .before))))) (omega arith) (not-true _ (c .if3 .taken))))
 
 array-write-left : tie.Need-array-write-left Inv-loop μ-loop
 array-write-left c = omega arith
@@ -55,13 +69,16 @@ loop-less : tie.Need-loop-less Inv-loop μ-loop
 loop-less c = omega arith
 
 loop-again : tie.Need-loop-again Inv-loop μ-loop
-loop-again c = (left-more _ _ _ _ (c .before .before .before .before .before .loop .inv .0) (c .before .before .wide2 .result) (c .before .before .wide2 .ensures .0) (omega arith) (not-false _ (c .if3 .left)), omega arith)
+loop-again c =
+    (left-more _ _ _ _ (looped (c .before .before) .loop .inv .0) (c .before .before .wide2 .result) (c .before .before .wide2 .ensures .0) (omega arith) (not-false _ (c .if3 .left)), omega arith)
 
 any-requires : tie.Need-any-requires Inv-loop μ-loop
 any-requires c κs = search needs
 
 returns-4 : tie.Need-returns-4 Inv-loop μ-loop
-returns-4 c = once-tested _ _ _ (c .before .before .before .before .before .args .t1 .count) _ _ (c .any .ensures) (c .before .before .loop .inv .0) (omega arith) (omega arith) (omega (arith, jobs-long (c .before .before .before .before .before)))
+returns-4 c =
+    once-tested _ _ _ (begun (c .before .before) .args .t1 .count) _ _ (c .any .ensures)
+    (c .before .before .loop .inv .0) (omega arith) (omega arith) (omega (arith, jobs-long (begun (c .before .before))))
 
 pub each-once-spec : {M : Type 1} → statement M
 each-once-spec =

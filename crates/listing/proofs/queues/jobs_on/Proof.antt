@@ -17,6 +17,11 @@ Inv-loop present transport t on₀ j₀ on j = (j ≤ 32) × (length on ≡ 32) 
 abbrev μ-loop : tie.MeasureT-loop
 μ-loop present transport t on₀ j₀ on j = 32 - j
 
+-- the round of the loop, seen from its end
+
+abbrev looped : tie.After-on2 Inv-loop μ-loop → tie.At-loop Inv-loop μ-loop
+looped c = c .before .before .before
+
 loop-holds : tie.Need-loop-holds Inv-loop μ-loop
 loop-holds c = (omega arith, length-replicate 32 false, λ i l. absurd (omega arith))
 
@@ -36,7 +41,11 @@ loop-less : tie.Need-loop-less Inv-loop μ-loop
 loop-less c = omega arith
 
 loop-again : tie.Need-loop-again Inv-loop μ-loop
-loop-again c = (omega arith, length-set (c .before .before .before .loop .on) (c .before .before .before .loop .j) _ ∙ c .before .before .before .loop .inv .1, set-more _ (c .before .before .before .loop .on) (c .before .before .before .loop .j) _ false (omega arith) (c .before .before .before .loop .inv .2) refl)
+loop-again c = (
+  omega arith,
+  length-set (looped c .loop .on) (looped c .loop .j) _ ∙ looped c .loop .inv .1,
+  set-more _ (looped c .loop .on) (looped c .loop .j) _ false (omega arith) (looped c .loop .inv .2) refl,
+)
 
 returns : tie.Need-returns Inv-loop μ-loop
 returns c = λ j l. c .before .loop .inv .2 j (omega arith)

@@ -21,8 +21,21 @@ Inv-loop present transport transports queues t₀ t = (allTo (queueTest queues p
 abbrev μ-loop : tie.MeasureT-loop
 μ-loop present transport transports queues t₀ t = transports - t
 
+-- the start, seen from the loop, and the round that a queue belongs to
+
+abbrev begun : tie.In-loop Inv-loop μ-loop → tie.Start Inv-loop μ-loop
+begun c = c .before .before
+
+abbrev round : tie.After-each-once Inv-loop μ-loop → tie.In-loop Inv-loop μ-loop
+round c = c .before .before .before
+
 queues-long : (c : tie.Start Inv-loop μ-loop) → length (c .args .t1) ≡ 4
 queues-long c = search (needs, length-of-map)
+
+-- the test of the round's queue
+tested : (c : tie.After-each-once Inv-loop μ-loop)
+    → c .each-once .result ≡ queueTest (begun (round c) .args .t1) (begun (round c) .args .present .now) (begun (round c) .args .transport .now) (round c .before .loop .t)
+tested c = queue-tested _ _ _ _ (c .before .jobs-on .result) _ (omega (arith, queues-long (begun (round c)))) (c .before .jobs-on .ensures) (c .each-once .ensures)
 
 loop-holds : tie.Need-loop-holds Inv-loop μ-loop
 loop-holds c = (sym (all-none _), omega arith)
@@ -43,7 +56,7 @@ each-once-requires : tie.Need-each-once-requires Inv-loop μ-loop
 each-once-requires c κs = search needs
 
 returns : tie.Need-returns Inv-loop μ-loop
-returns c = sym (all-false-of _ _ (c .before .before .before .before .before .loop .t) (omega arith) (sym (queue-tested _ _ _ _ (c .before .before .jobs-on .result) _ (omega (arith, queues-long (c .before .before .before .before .before .before))) (c .before .before .jobs-on .ensures) (c .before .each-once .ensures)) ∙ not-true _ (c .if1 .taken)))
+returns c = sym (all-false-of _ _ (round (c .before) .before .loop .t) (omega arith) (sym (tested (c .before)) ∙ not-true _ (c .if1 .taken)))
 
 add-t : tie.Need-add-t Inv-loop μ-loop
 add-t c = omega arith
@@ -52,7 +65,7 @@ loop-less : tie.Need-loop-less Inv-loop μ-loop
 loop-less c = omega arith
 
 loop-again : tie.Need-loop-again Inv-loop μ-loop
-loop-again c = (all-more _ _ (c .before .before .before .before .before .loop .inv .0) (sym (queue-tested _ _ _ _ (c .before .before .jobs-on .result) _ (omega (arith, queues-long (c .before .before .before .before .before .before))) (c .before .before .jobs-on .ensures) (c .before .each-once .ensures)) ∙ not-false _ (c .if1 .left)), omega arith)
+loop-again c = (all-more _ _ (round (c .before) .before .loop .inv .0) (sym (tested (c .before)) ∙ not-false _ (c .if1 .left)), omega arith)
 
 returns-2 : tie.Need-returns-2 Inv-loop μ-loop
 returns-2 c = let e : c .before .loop .t ≡ c .before .before .args .transports = omega arith in sym (rw e at (c .before .loop .inv .0))
