@@ -1,3 +1,3 @@
 pub mod PutOffLaws
-pub mod Steps
+pub mod HealthCases
 pub mod RefusalLaws

@@ -36,7 +36,8 @@ module _ (d : ℕ) (kind job destination dropped list : List ℕ) (can : CanPutO
   unfolding tableTo chosenTo countTo
   put-start = record {
     kinds = refl;
-    counts = sym (table-same (droppedAt kind job destination dropped true d 0) (at dropped) maxJobs (λ j l. add-zero (at dropped j)) ∙ ap (tableTo (at dropped)) (sym (can .jobs)) ∙ table-self 0 dropped);
+    counts = sym (table-same (droppedAt kind job destination dropped true d 0) (at dropped) maxJobs (λ j l. add-zero (at dropped j))
+        ∙ ap (tableTo (at dropped)) (sym (can .jobs)) ∙ table-self 0 dropped);
     listed = refl;
     number = refl;
     inside = omega arith;
@@ -124,7 +125,9 @@ module _ (d : ℕ) (kind job destination dropped list : List ℕ) (can : CanPutO
   put-off-none =
       let none : chosenTo (putOffAt kind destination false d) maxEntries ≡ [] = chosen-none maxEntries in record {
         kinds = sym (ap (tableTo (at kind)) (sym (can .entries)) ∙ table-self 0 kind);
-        counts = sym (table-same (droppedAt kind job destination dropped false d maxEntries) (at dropped) maxJobs (λ j l. ap (λ c. at dropped j + c) (count-none (λ e. false) maxEntries (λ i k. refl)) ∙ add-zero (at dropped j)) ∙ ap (tableTo (at dropped)) (sym (can .jobs)) ∙ table-self 0 dropped);
+        counts = sym (table-same (droppedAt kind job destination dropped false d maxEntries) (at dropped) maxJobs
+            (λ j l. ap (λ c. at dropped j + c) (count-none (λ e. false) maxEntries (λ i k. refl)) ∙ add-zero (at dropped j))
+            ∙ ap (tableTo (at dropped)) (sym (can .jobs)) ∙ table-self 0 dropped);
         listed = rw none refl;
         number = rw none refl;
       }

@@ -1,6 +1,6 @@
 -- The result is the test over the entries passed. Assumes nothing.
-use Prim.Native.Nat.{_≤_, _-_}
-use mathlib.Core.Bool.{_||_}
+use Prim.Native.Nat.{ℕ, _≤_, _-_}
+use mathlib.Core.Bool.{Bool, _||_}
 use mathlib.Core.Path.{_≡_, refl, sym, ap, _∙_}
 use native.Mathlib.Omega.{arith}
 use Rattle.laws.specs.Range.{anyTo}
@@ -14,6 +14,14 @@ Inv-loop kind job j any₀ e₀ any e = (any ≡ anyTo (usedAt kind job j) e) ×
 
 abbrev μ-loop : tie.MeasureT-loop
 μ-loop kind job j any₀ e₀ any e = 512 - e
+
+-- the test of an entry, and the round of the loop, seen from its end
+
+abbrev used : tie.Start Inv-loop μ-loop → ℕ → Bool
+used c = usedAt (c .args .kind .now) (c .args .job .now) (c .args .j)
+
+abbrev looped : tie.After-any2 Inv-loop μ-loop → tie.At-loop Inv-loop μ-loop
+looped c = c .before .before .before
 
 loop-holds : tie.Need-loop-holds Inv-loop μ-loop
 unfolding anyTo
@@ -33,12 +41,12 @@ loop-less c = omega arith
 
 loop-again : tie.Need-loop-again Inv-loop μ-loop
 loop-again c = (
-  ap (λ b. b || usedAt (c .before .before .before .before .args .kind .now) (c .before .before .before .before .args .job .now) (c .before .before .before .before .args .j) (c .before .before .before .loop .e)) (c .before .before .before .loop .inv .0) ∙ sym (any-step (usedAt (c .before .before .before .before .args .kind .now) (c .before .before .before .before .args .job .now) (c .before .before .before .before .args .j)) (c .before .before .before .loop .e)),
+  ap (λ b. b || used (looped c .before) (looped c .loop .e)) (looped c .loop .inv .0) ∙ sym (any-step (used (looped c .before)) (looped c .loop .e)),
   omega arith,
 )
 
 returns : tie.Need-returns Inv-loop μ-loop
-returns c = let e : c .before .loop .e ≡ 512 = omega arith in c .before .loop .inv .0 ∙ ap (anyTo (usedAt (c .before .before .args .kind .now) (c .before .before .args .job .now) (c .before .before .args .j))) e
+returns c = let e : c .before .loop .e ≡ 512 = omega arith in c .before .loop .inv .0 ∙ ap (anyTo (used (c .before .before))) e
 
 pub has-entry-spec : {M : Type 1} → statement M
 has-entry-spec =

@@ -1,7 +1,7 @@
 -- Below j it is said who stays; from j on stands who was present. Assumes nothing.
 use borrow.Author.Needs.{needs}
-use Prim.Native.Nat.{_≤_, _<_, _-_}
-use mathlib.Core.Bool.{false, _&&_}
+use Prim.Native.Nat.{ℕ, _≤_, _<_, _-_}
+use mathlib.Core.Bool.{Bool, false, _&&_}
 use mathlib.Core.List.{_++_}
 use mathlib.Core.Logic.{⊎-elim}
 use mathlib.Core.Path.{_≡_, sym, ap, _∙_}
@@ -21,11 +21,22 @@ Inv-loop kind job pairs d of present to own stays₀ j₀ stays j =
 abbrev μ-loop : tie.MeasureT-loop
 μ-loop kind job pairs d of present to own stays₀ j₀ stays j = 32 - j
 
+-- the start, seen from the loop, who stays, and the round of the loop, seen from its end
+
+abbrev begun : tie.At-loop Inv-loop μ-loop → tie.Start Inv-loop μ-loop
+begun c = c .before
+
+abbrev stays : tie.Start Inv-loop μ-loop → ℕ → Bool
+stays c = staysAt (c .args .kind .now) (c .args .job .now) (c .args .t4) 512
+
+abbrev looped : tie.Joined1 Inv-loop μ-loop → tie.At-loop Inv-loop μ-loop
+looped c = c .before .before .before
+
 loop-holds : tie.Need-loop-holds Inv-loop μ-loop
 loop-holds c = (fill-none _ _, omega arith, search needs)
 
 may-be-empty-requires : tie.Need-may-be-empty-requires Inv-loop μ-loop
-may-be-empty-requires c κs = (c .loop-test .taken, c .before .before .pre .0)
+may-be-empty-requires c κs = (c .loop-test .taken, begun (c .before) .pre .0)
 
 array-read-stays : tie.Need-array-read-stays Inv-loop μ-loop
 array-read-stays c = omega arith
@@ -47,20 +58,24 @@ loop-less c = omega arith
 
 loop-again : tie.Need-loop-again Inv-loop μ-loop
 loop-again c =
-    let l : c .before .before .before .loop .j < length (c .before .before .before .before .args .t4) = omega (arith, c .before .before .before .loop .inv .2) in (
+    let l : looped c .loop .j < length (begun (looped c) .args .t4) = omega (arith, looped c .loop .inv .2) in (
       ⊎-elim
-          (λ w. w .2 ∙ fill-more (staysAt (c .before .before .before .before .args .kind .now) (c .before .before .before .before .args .job .now) (c .before .before .before .before .args .t4) 512) (c .before .before .before .before .args .t4) (c .before .before .before .loop .j) l (c .before .before .before .loop .inv .0) (ap (λ b. getD (c .before .before .before .before .args .t4) (c .before .before .before .loop .j) false && b) (w .1 .ensures)))
-          (λ w. w .1 ∙ c .before .before .before .loop .inv .0 ∙ stay-kept (c .before .before .before .before .args .kind .now) (c .before .before .before .before .args .job .now) (c .before .before .before .before .args .t4) (emptied (c .before .before .before .before .args .pairs .now) (c .before .before .before .before .args .d) (c .before .before .before .before .args .of)) (c .before .before .before .before .pre .1) (c .before .before .before .loop .j) (c .before .before .loop-test .taken) l (sym (c .before .may-be-empty .ensures) ∙ w .0 .left))
+          (λ w. w .2 ∙ fill-more (stays (begun (looped c))) (begun (looped c) .args .t4) (looped c .loop .j) l
+          (looped c .loop .inv .0) (ap (λ b. getD (begun (looped c) .args .t4) (looped c .loop .j) false && b) (w .1 .ensures)))
+          (λ w. w .1 ∙ looped c .loop .inv .0
+          ∙ stay-kept (begun (looped c) .args .kind .now) (begun (looped c) .args .job .now) (begun (looped c) .args .t4)
+          (emptied (begun (looped c) .args .pairs .now) (begun (looped c) .args .d) (begun (looped c) .args .of)) (begun (looped c) .pre .1)
+          (looped c .loop .j) (c .before .before .loop-test .taken) l (sym (c .before .may-be-empty .ensures) ∙ w .0 .left))
           (c .if1 .came),
       omega arith,
-      c .before .before .before .loop .inv .2,
+      looped c .loop .inv .2,
     )
 
 returns : tie.Need-returns Inv-loop μ-loop
 returns c =
     let e : c .before .loop .j ≡ 32 = omega arith in
-    fill-all (staysAt (c .before .before .args .kind .now) (c .before .before .args .job .now) (c .before .before .args .t4) 512) (c .before .before .args .t4) 32 (c .before .loop .inv .2)
-    (c .before .loop .inv .0 ∙ ap (λ j. tableTo (staysAt (c .before .before .args .kind .now) (c .before .before .args .job .now) (c .before .before .args .t4) 512) j ++ drop j (c .before .before .args .t4)) e)
+    fill-all (stays (begun (c .before))) (begun (c .before) .args .t4) 32 (c .before .loop .inv .2)
+    (c .before .loop .inv .0 ∙ ap (λ j. tableTo (stays (begun (c .before))) j ++ drop j (begun (c .before) .args .t4)) e)
 
 pub left-with-some-spec : {M : Type 1} → statement M
 left-with-some-spec =

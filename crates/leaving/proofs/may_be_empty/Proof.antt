@@ -1,5 +1,6 @@
 -- Each way out is a case of the conjunction. Assumes nothing.
-use mathlib.Core.Bool.{not, _&&_}
+use mathlib.Core.Bool.{Bool, not, _&&_}
+use Prim.Native.Nat.{ℕ}
 use mathlib.Core.Path.{sym, ap, _∙_}
 use native.Mathlib.Omega.{arith}
 use Rattle.laws.specs.Range.{anyTo}
@@ -7,6 +8,11 @@ use Rattle.laws.proofs.Choice.{and-left-false}
 use Rattle.leaving.specs.Leaving.{elsewhere}
 use Rattle.leaving.proofs.may_be_empty.Statement.{statement}
 use Rattle.leaving.proofs.may_be_empty.Tie as tie
+
+-- whether the job waits for another destination
+
+abbrev other : tie.Start → ℕ → Bool
+other c = elsewhere (c .args .pairs .now) (c .args .d) (c .args .j)
 
 mul-if1 : tie.Need-mul-if1
 mul-if1 c = omega (arith, c .pre .0)
@@ -24,10 +30,10 @@ waits-elsewhere-requires : tie.Need-waits-elsewhere-requires
 waits-elsewhere-requires c κs = c .before .before .pre .0
 
 returns : tie.Need-returns
-returns c = ap not (c .waits-elsewhere .ensures) ∙ sym (ap (λ b. b && not (anyTo (elsewhere (c .before .before .before .args .pairs .now) (c .before .before .before .args .d) (c .before .before .before .args .j)) 32)) (c .before .if1 .taken))
+returns c = ap not (c .waits-elsewhere .ensures) ∙ sym (ap (λ b. b && not (anyTo (other (c .before .before .before)) 32)) (c .before .if1 .taken))
 
 returns-2 : tie.Need-returns-2
-returns-2 c = sym (and-left-false (not (anyTo (elsewhere (c .before .before .args .pairs .now) (c .before .before .args .d) (c .before .before .args .j)) 32)) (c .if1 .left))
+returns-2 c = sym (and-left-false (not (anyTo (other (c .before .before)) 32)) (c .if1 .left))
 
 pub may-be-empty-spec : {M : Type 1} → statement M
 may-be-empty-spec =

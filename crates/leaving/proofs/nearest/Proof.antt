@@ -19,6 +19,14 @@ Inv-loop stays parent link link₀ left₀ link' left = (firstAlong (λ x. getD 
 abbrev μ-loop : tie.MeasureT-loop
 μ-loop stays parent link link₀ left₀ link' left = left
 
+-- the round of the loop, seen from where the job was read, and that from where its parent was
+
+abbrev looped : tie.After-wide Inv-loop μ-loop → tie.At-loop Inv-loop μ-loop
+looped c = c .before .before .before
+
+abbrev read : tie.After-link Inv-loop μ-loop → tie.After-wide Inv-loop μ-loop
+read c = c .before .before .before
+
 loop-holds : tie.Need-loop-holds Inv-loop μ-loop
 loop-holds c = (refl, c .pre)
 
@@ -32,13 +40,13 @@ sub-j : tie.Need-sub-j Inv-loop μ-loop
 sub-j c = omega arith
 
 element-copy-out-if2 : tie.Need-element-copy-out-if2 Inv-loop μ-loop
-element-copy-out-if2 c = omega (arith, leads-below _ _ _ (omega arith) (omega arith) (c .before .before .before .loop .inv .1))
+element-copy-out-if2 c = omega (arith, leads-below _ _ _ (omega arith) (omega arith) (looped c .loop .inv .1))
 
 returns-2 : tie.Need-returns-2 Inv-loop μ-loop
-returns-2 c = sym (nearest-here _ _ _ _ _ (omega arith) (omega arith) (c .before .before .wide .ensures .0) (c .if2 .taken)) ∙ c .before .before .before .before .before .loop .inv .0
+returns-2 c = sym (nearest-here _ _ _ _ _ (omega arith) (omega arith) (c .before .before .wide .ensures .0) (c .if2 .taken)) ∙ looped (c .before .before) .loop .inv .0
 
 element-copy-out-link : tie.Need-element-copy-out-link Inv-loop μ-loop
-element-copy-out-link c = omega (arith, leads-below _ _ _ (omega arith) (omega arith) (c .before .before .before .before .before .loop .inv .1))
+element-copy-out-link c = omega (arith, leads-below _ _ _ (omega arith) (omega arith) (looped (c .before .before) .loop .inv .1))
 
 sub-left : tie.Need-sub-left Inv-loop μ-loop
 sub-left c = omega arith
@@ -47,7 +55,12 @@ loop-less : tie.Need-loop-less Inv-loop μ-loop
 loop-less c = omega arith
 
 loop-again : tie.Need-loop-again Inv-loop μ-loop
-loop-again c = (nearest-on (λ x. getD (c .before .before .before .before .before .before .before .args .stays .now) x false) (at (c .before .before .before .before .before .before .before .args .parent .now)) (c .before .before .before .before .before .before .loop .left) (c .before .before .before .before .before .before .loop .link) (c .before .before .before .wide .result) (omega arith) (omega arith) (c .before .before .before .wide .ensures .0) (c .before .if2 .left) ∙ c .before .before .before .before .before .before .loop .inv .0, rw (c .before .before .before .wide .ensures .0) (leads-next _ _ _ (omega arith) (omega arith) (c .before .before .before .before .before .before .loop .inv .1)))
+loop-again c = (
+  nearest-on (λ x. getD (looped (read c) .before .args .stays .now) x false) (at (looped (read c) .before .args .parent .now)) (looped (read c) .loop .left) (looped (read c) .loop .link)
+      (read c .wide .result) (omega arith) (omega arith) (read c .wide .ensures .0) (c .before .if2 .left)
+      ∙ looped (read c) .loop .inv .0,
+  rw (read c .wide .ensures .0) (leads-next _ _ _ (omega arith) (omega arith) (looped (read c) .loop .inv .1)),
+)
 
 returns-3 : tie.Need-returns-3 Inv-loop μ-loop
 returns-3 c = sym (nearest-none _ _ _ _ (c .loop-test .left)) ∙ c .before .loop .inv .0

@@ -23,7 +23,9 @@ array-write-stays : tie.Need-array-write-stays
 array-write-stays c = c .before .before .pre .1
 
 returns-2 : tie.Need-returns-2
-returns-2 c = stay-one (c .before .before .args .kind .now) (c .before .before .args .job .now) (c .before .before .args .t4) (c .before .before .args .of) (search needs) (c .before .before .pre .3 (c .before .if1 .left)) (ap (λ b. getD (c .before .before .args .t4) (c .before .before .args .of) _ && b) (c .has-entry .ensures))
+returns-2 c =
+    stay-one (c .before .before .args .kind .now) (c .before .before .args .job .now) (c .before .before .args .t4) (c .before .before .args .of) (search needs)
+    (c .before .before .pre .3 (c .before .if1 .left)) (ap (λ b. getD (c .before .before .args .t4) (c .before .before .args .of) _ && b) (c .has-entry .ensures))
 
 pub staying-spec : {M : Type 1} → statement M
 staying-spec =

@@ -1,6 +1,6 @@
 -- The result is the test over the destinations passed. Assumes nothing.
-use Prim.Native.Nat.{_≤_, _-_}
-use mathlib.Core.Bool.{_||_}
+use Prim.Native.Nat.{ℕ, _≤_, _-_}
+use mathlib.Core.Bool.{Bool, _||_}
 use mathlib.Core.Path.{_≡_, refl, sym, ap, _∙_}
 use native.Mathlib.Omega.{arith}
 use Rattle.laws.specs.Range.{anyTo}
@@ -14,6 +14,11 @@ Inv-loop pairs j d any₀ x₀ any x = (any ≡ anyTo (elsewhere pairs d j) x) �
 
 abbrev μ-loop : tie.MeasureT-loop
 μ-loop pairs j d any₀ x₀ any x = 32 - x
+
+-- the test of a destination
+
+abbrev other : tie.Start Inv-loop μ-loop → ℕ → Bool
+other c = elsewhere (c .args .pairs .now) (c .args .d) (c .args .j)
 
 loop-holds : tie.Need-loop-holds Inv-loop μ-loop
 unfolding anyTo
@@ -39,12 +44,12 @@ loop-less c = omega arith
 
 loop-again : tie.Need-loop-again Inv-loop μ-loop
 loop-again c = (
-  ap (λ b. b || elsewhere (c .before .before .before .args .pairs .now) (c .before .before .before .args .d) (c .before .before .before .args .j) (c .before .before .loop .x)) (c .before .before .loop .inv .0) ∙ sym (any-step (elsewhere (c .before .before .before .args .pairs .now) (c .before .before .before .args .d) (c .before .before .before .args .j)) (c .before .before .loop .x)),
+  ap (λ b. b || other (c .before .before .before) (c .before .before .loop .x)) (c .before .before .loop .inv .0) ∙ sym (any-step (other (c .before .before .before)) (c .before .before .loop .x)),
   omega arith,
 )
 
 returns : tie.Need-returns Inv-loop μ-loop
-returns c = let e : c .before .loop .x ≡ 32 = omega arith in c .before .loop .inv .0 ∙ ap (anyTo (elsewhere (c .before .before .args .pairs .now) (c .before .before .args .d) (c .before .before .args .j))) e
+returns c = let e : c .before .loop .x ≡ 32 = omega arith in c .before .loop .inv .0 ∙ ap (anyTo (other (c .before .before))) e
 
 pub waits-elsewhere-spec : {M : Type 1} → statement M
 waits-elsewhere-spec =

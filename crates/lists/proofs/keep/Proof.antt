@@ -29,7 +29,7 @@ abbrev stays : tie.Start Inv-loop μ-loop → ℕ → Bool
 stays c = λ j. getD (c .args .stays .now) j false
 
 abbrev list : tie.At-loop Inv-loop μ-loop → List ℕ
-list c = c .before .args .t1 .jobs
+list c = begun c .args .t1 .jobs
 
 abbrev looped : tie.After-marked Inv-loop μ-loop → tie.At-loop Inv-loop μ-loop
 looped c = c .before .before .before
@@ -48,10 +48,10 @@ marked-requires : tie.Need-marked-requires Inv-loop μ-loop
 marked-requires c κs = c .before .before .before .pre .1
 
 array-write-jobs : tie.Need-array-write-jobs Inv-loop μ-loop
-array-write-jobs c = omega (arith, length-keep-take (stays (looped (c .before) .before)) (list (looped (c .before))) (looped (c .before) .loop .i) (omega arith))
+array-write-jobs c = omega (arith, length-keep-take (stays (begun (looped (c .before)))) (list (looped (c .before))) (looped (c .before) .loop .i) (omega arith))
 
 add-m : tie.Need-add-m Inv-loop μ-loop
-add-m c = omega (arith, length-keep-take (stays (looped (c .before) .before)) (list (looped (c .before))) (looped (c .before) .loop .i) (omega arith))
+add-m c = omega (arith, length-keep-take (stays (begun (looped (c .before)))) (list (looped (c .before))) (looped (c .before) .loop .i) (omega arith))
 
 add-i : tie.Need-add-i Inv-loop μ-loop
 add-i c = omega arith
@@ -61,7 +61,7 @@ loop-less c = omega arith
 
 loop-again : tie.Need-loop-again Inv-loop μ-loop
 loop-again c =
-    let p : ℕ → Bool = (stays (looped (c .before) .before)) in
+    let p : ℕ → Bool = (stays (begun (looped (c .before)))) in
     let l : looped (c .before) .loop .i < length (list (looped (c .before))) = omega arith in
     let r = ⊎-elim
     (λ w. keep-put p (list (looped (c .before))) (looped (c .before) .loop .i) 32 l (looped (c .before) .loop .inv .0)

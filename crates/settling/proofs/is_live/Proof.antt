@@ -1,5 +1,5 @@
 -- Live, dead. Assumes nothing.
-use Rattle.settling.proofs.Steps.{live-is, dead-is}
+use Rattle.settling.proofs.HealthCases.{live-is, dead-is}
 use borrow.Author.Needs.{needs}
 use Rattle.settling.proofs.is_live.Statement.{statement}
 use Rattle.settling.proofs.is_live.Tie as tie

@@ -14,11 +14,22 @@ Inv-loop kind₀ job destination dropped₀ list₀ died d m₀ i₀ kind droppe
 abbrev μ-loop : tie.MeasureT-loop
 μ-loop kind₀ job destination dropped₀ list₀ died d m₀ i₀ kind dropped list m i = 512 - i
 
+-- The start, seen from the loop, the round of the loop, seen from its test, and the test, seen from where the job was read.
+
+abbrev begun : tie.At-loop Inv-loop μ-loop → tie.Start Inv-loop μ-loop
+begun c = c .before .before .before
+
+abbrev looped : tie.After-if23 Inv-loop μ-loop → tie.At-loop Inv-loop μ-loop
+looped c = c .before .before .before
+
+abbrev tested : tie.After-wide Inv-loop μ-loop → tie.After-if23 Inv-loop μ-loop
+tested c = c .before .before .before
+
 returns : tie.Need-returns Inv-loop μ-loop
-returns c = let b = c .before .before .args in rw (not-true (c .before .before .args .died) (c .if1 .taken)) (put-off-none (b .d) (b .kind .now) (b .job .now) (b .destination .now) (b .dropped .now) (b .list .now) (c .before .before .pre))
+returns c = rw (not-true (c .before .before .args .died) (c .if1 .taken)) (put-off-none _ _ _ _ _ _ (c .before .before .pre))
 
 loop-holds : tie.Need-loop-holds Inv-loop μ-loop
-loop-holds c = let b = c .before .before .args in put-start (b .d) (b .kind .now) (b .job .now) (b .destination .now) (b .dropped .now) (b .list .now) (c .before .before .pre)
+loop-holds c = put-start _ _ _ _ _ _ (c .before .before .pre)
 
 element-copy-out-if2 : tie.Need-element-copy-out-if2 Inv-loop μ-loop
 element-copy-out-if2 c = omega arith
@@ -33,31 +44,51 @@ wide-requires : tie.Need-wide-requires Inv-loop μ-loop
 wide-requires c κs = tt
 
 mul-dropped : tie.Need-mul-dropped Inv-loop μ-loop
-mul-dropped c = let b = c .before .before .before .before .before .before .before .before .before .args in omega (arith, put-job (b .d) (b .kind .now) (b .job .now) (b .destination .now) (b .dropped .now) (b .list .now) (c .before .before .before .before .before .before .before .before .before .pre) (c .before .before .before .before .before .before .loop .inv) (c .before .before .before .before .before .loop-test .taken) (c .before .before .if2 .taken) (c .wide .ensures .0))
+mul-dropped c =
+    omega (
+      arith,
+      put-job _ _ _ _ _ _ (begun (looped (tested c)) .pre) (looped (tested c) .loop .inv)
+          (tested c .before .before .loop-test .taken) (c .before .before .if2 .taken) (c .wide .ensures .0),
+    )
 
 element-copy-out-dropped : tie.Need-element-copy-out-dropped Inv-loop μ-loop
-element-copy-out-dropped c = let b = c .before .before .before .before .before .before .before .before .before .args in put-job (b .d) (b .kind .now) (b .job .now) (b .destination .now) (b .dropped .now) (b .list .now) (c .before .before .before .before .before .before .before .before .before .pre) (c .before .before .before .before .before .before .loop .inv) (c .before .before .before .before .before .loop-test .taken) (c .before .before .if2 .taken) (c .wide .ensures .0)
+element-copy-out-dropped c =
+    put-job _ _ _ _ _ _ (begun (looped (tested c)) .pre) (looped (tested c) .loop .inv) (tested c .before .before .loop-test .taken) (c .before .before .if2 .taken) (c .wide .ensures .0)
 
 add-dropped : tie.Need-add-dropped Inv-loop μ-loop
-add-dropped c = let b = c .before .before .before .before .before .before .before .before .before .before .args in omega (arith, put-room (b .d) (b .kind .now) (b .job .now) (b .destination .now) (b .dropped .now) (b .list .now) (c .before .before .before .before .before .before .before .before .before .before .pre) (c .before .before .before .before .before .before .before .loop .inv) (c .before .before .before .before .before .before .loop-test .taken) (c .before .before .before .if2 .taken) (c .before .wide .ensures .0))
+add-dropped c =
+    omega (
+      arith,
+      put-room _ _ _ _ _ _ (begun (looped (tested (c .before))) .pre) (looped (tested (c .before)) .loop .inv)
+          (tested (c .before) .before .before .loop-test .taken) (c .before .before .before .if2 .taken) (c .before .wide .ensures .0),
+    )
 
 element-write-dropped : tie.Need-element-write-dropped Inv-loop μ-loop
-element-write-dropped c = let b = c .before .before .before .before .before .before .before .before .before .before .args in put-job (b .d) (b .kind .now) (b .job .now) (b .destination .now) (b .dropped .now) (b .list .now) (c .before .before .before .before .before .before .before .before .before .before .pre) (c .before .before .before .before .before .before .before .loop .inv) (c .before .before .before .before .before .before .loop-test .taken) (c .before .before .before .if2 .taken) (c .before .wide .ensures .0)
+element-write-dropped c =
+    put-job _ _ _ _ _ _ (begun (looped (tested (c .before))) .pre) (looped (tested (c .before)) .loop .inv)
+    (tested (c .before) .before .before .loop-test .taken) (c .before .before .before .if2 .taken) (c .before .wide .ensures .0)
 
 cast-list : tie.Need-cast-list Inv-loop μ-loop
 cast-list c = omega arith
 
 mul-list : tie.Need-mul-list Inv-loop μ-loop
-mul-list c = let b = c .before .before .before .before .before .before .before .before .before .before .args in omega (arith, put-few (b .d) (b .kind .now) (b .job .now) (b .destination .now) (b .dropped .now) (b .list .now) (c .before .before .before .before .before .before .before .before .before .before .pre) (c .before .before .before .before .before .before .before .loop .inv))
+mul-list c = omega (arith, put-few _ _ _ _ _ _ (begun (looped (tested (c .before))) .pre) (looped (tested (c .before)) .loop .inv))
 
 slice-write-list : tie.Need-slice-write-list Inv-loop μ-loop
-slice-write-list c = let b = c .before .before .before .before .before .before .before .before .before .before .args in omega (arith, put-few (b .d) (b .kind .now) (b .job .now) (b .destination .now) (b .dropped .now) (b .list .now) (c .before .before .before .before .before .before .before .before .before .before .pre) (c .before .before .before .before .before .before .before .loop .inv), put-length (b .d) (b .kind .now) (b .job .now) (b .destination .now) (b .dropped .now) (b .list .now) (c .before .before .before .before .before .before .before .before .before .before .pre) (c .before .before .before .before .before .before .before .loop .inv), c .before .before .before .before .before .before .before .before .before .before .pre .places)
+slice-write-list c =
+    omega (
+      arith,
+      put-few _ _ _ _ _ _ (begun (looped (tested (c .before))) .pre) (looped (tested (c .before)) .loop .inv),
+      put-length _ _ _ _ _ _
+          (begun (looped (tested (c .before))) .pre) (looped (tested (c .before)) .loop .inv),
+      begun (looped (tested (c .before))) .pre .places,
+    )
 
 element-write-kind : tie.Need-element-write-kind Inv-loop μ-loop
 element-write-kind c = omega arith
 
 add-m : tie.Need-add-m Inv-loop μ-loop
-add-m c = let b = c .before .before .before .before .before .before .before .before .before .before .args in omega (arith, put-few (b .d) (b .kind .now) (b .job .now) (b .destination .now) (b .dropped .now) (b .list .now) (c .before .before .before .before .before .before .before .before .before .before .pre) (c .before .before .before .before .before .before .before .loop .inv))
+add-m c = omega (arith, put-few _ _ _ _ _ _ (begun (looped (tested (c .before))) .pre) (looped (tested (c .before)) .loop .inv))
 
 add-i : tie.Need-add-i Inv-loop μ-loop
 add-i c = omega arith
@@ -66,16 +97,24 @@ loop-less : tie.Need-loop-less Inv-loop μ-loop
 loop-less c = omega arith
 
 loop-again : tie.Need-loop-again Inv-loop μ-loop
-loop-again c = let b = c .before .before .before .before .before .before .before .args in ⊎-elim (λ w. put-more (b .d) (b .kind .now) (b .job .now) (b .destination .now) (b .dropped .now) (b .list .now) (c .before .before .before .before .before .before .before .pre) (c .before .before .before .before .loop .inv) (c .before .before .before .loop-test .taken) (w .0 .taken) (w .2 .ensures .0) (w .4) (w .5) (w .6) (w .7)) (λ w. put-none (b .d) (b .kind .now) (b .job .now) (b .destination .now) (b .dropped .now) (b .list .now) (c .before .before .before .before .before .before .before .pre) (c .before .before .before .before .loop .inv) (c .before .before .before .loop-test .taken) (w .0 .left) (w .1) (w .2) (w .3) (w .4)) (c .if2 .came)
+loop-again c =
+    ⊎-elim
+    (λ w. put-more _ _ _ _ _ _ (begun (looped (c .before)) .pre) (looped (c .before) .loop .inv) (c .before .before .before .loop-test .taken)
+    (w .0 .taken) (w .2 .ensures .0) (w .4) (w .5) (w .6) (w .7))
+    (λ w. put-none _ _ _ _ _ _ (begun (looped (c .before)) .pre) (looped (c .before) .loop .inv) (c .before .before .before .loop-test .taken)
+    (w .0 .left) (w .1) (w .2) (w .3) (w .4))
+    (c .if2 .came)
 
 cast-result : tie.Need-cast-result Inv-loop μ-loop
-cast-result c = let b = c .before .before .before .before .args in omega (arith, put-few (b .d) (b .kind .now) (b .job .now) (b .destination .now) (b .dropped .now) (b .list .now) (c .before .before .before .before .pre) (c .before .loop .inv))
+cast-result c = omega (arith, put-few _ _ _ _ _ _ (begun (c .before) .pre) (c .before .loop .inv))
 
 same-length : tie.Need-same-length Inv-loop μ-loop
-same-length c = let b = c .before .before .before .before .args in put-length (b .d) (b .kind .now) (b .job .now) (b .destination .now) (b .dropped .now) (b .list .now) (c .before .before .before .before .pre) (c .before .loop .inv)
+same-length c = put-length _ _ _ _ _ _ (begun (c .before) .pre) (c .before .loop .inv)
 
 returns-2 : tie.Need-returns-2 Inv-loop μ-loop
-returns-2 c = let b = c .before .before .before .before .args in let e : c .before .loop .i ≡ 512 = omega (arith, c .before .loop .inv .inside) in rw (not-false (c .before .before .before .before .args .died) (c .before .before .if1 .left)) (put-all (b .d) (b .kind .now) (b .job .now) (b .destination .now) (b .dropped .now) (b .list .now) (c .before .before .before .before .pre) (rw e at (c .before .loop .inv)))
+returns-2 c =
+    let e : c .before .loop .i ≡ 512 = omega (arith, c .before .loop .inv .inside) in
+    rw (not-false (begun (c .before) .args .died) (c .before .before .if1 .left)) (put-all _ _ _ _ _ _ (begun (c .before) .pre) (rw e at (c .before .loop .inv)))
 
 pub put-off-spec : {M : Type 1} → statement M
 put-off-spec =

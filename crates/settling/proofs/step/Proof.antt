@@ -1,5 +1,5 @@
 -- A success, a failure. Assumes nothing.
-use Rattle.settling.proofs.Steps.{stepped-success, stepped-failure}
+use Rattle.settling.proofs.HealthCases.{stepped-success, stepped-failure}
 use borrow.Author.Needs.{needs}
 use Rattle.settling.proofs.step.Statement.{statement}
 use Rattle.settling.proofs.step.Tie as tie

@@ -1,4 +1,4 @@
--- A report's first step, case by case.
+-- A health, case by case: whether it is live, and a report's step on it.
 use Prim.Native.Nat.{ℕ}
 use mathlib.Core.Path.{_≡_, refl}
 use mathlib.Core.Bool.{true, false}
