@@ -132,7 +132,8 @@ module _ {clock n : ℕ} {ds : List Destination} {busy e x : List ℕ} {r d : �
   pub going-high : r ≤ 24 + 70 * n
   going-high = omega (arith, g .wrote .count, text-high clock ds busy n, text-front clock ds busy d n (g .below))
 
-pub going-done : {clock n : ℕ} {ds : List Destination} {busy e x y : List ℕ} {r q d : ℕ} → Wrote (clockLine clock) e x r → Going clock n ds busy x y q d → n ≤ d → Wrote (textOf clock n ds busy) e y q
+pub going-done : {clock n : ℕ} {ds : List Destination} {busy e x y : List ℕ} {r q d : ℕ} → Wrote (clockLine clock) e x r → Going clock n ds busy x y q d → n ≤ d
+    → Wrote (textOf clock n ds busy) e y q
 unfolding textOf
 going-done {clock} {n} {ds} {busy} {d} w g l =
     let h : d ≡ n = omega (arith, g .below) in

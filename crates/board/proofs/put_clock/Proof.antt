@@ -9,6 +9,14 @@ use Rattle.rules.specs.Board.{numbered, atWord, lineEnd, clockLine}
 use Rattle.board.proofs.put_clock.Statement.{statement}
 use Rattle.board.proofs.put_clock.Tie as tie
 
+-- the place between the parts, seen from the next, and the start
+
+abbrev begun : tie.After-put-number → tie.Start
+begun c = c .before .before .before .before
+
+abbrev after-number : tie.After-put → tie.After-put-number
+after-number c = c .before .before .before .before .before
+
 -- the buffer has room for the first part too
 first : (c : tie.Start) → length (atWord ++ numbered (c .args .clock)) ≤ length (c .args .buf .now)
 unfolding clockLine
@@ -24,28 +32,34 @@ slice-aggregate-put : tie.Need-slice-aggregate-put
 slice-aggregate-put c = search needs
 
 sub-put : tie.Need-sub-put
-sub-put c = start-fits (c .before .before .before .put-number .ensures) (first (c .before .before .before .before .before .before .before))
+sub-put c = start-fits (c .before .before .before .put-number .ensures) (first (begun (c .before .before .before)))
 
 part-put-start : tie.Need-part-put-start
-part-put-start c = start-fits (c .before .before .before .put-number .ensures) (first (c .before .before .before .before .before .before .before))
+part-put-start c = start-fits (c .before .before .before .put-number .ensures) (first (begun (c .before .before .before)))
 
 part-put-end : tie.Need-part-put-end
 part-put-end c = search needs
 
 put-requires : tie.Need-put-requires
 unfolding clockLine
-put-requires c κs = rest-fits (c .before .before .before .before .put-number .ensures) lineEnd (c .before .before .before .before .before .before .before .before .pre)
+put-requires c κs = rest-fits (c .before .before .before .before .put-number .ensures) lineEnd (begun (c .before .before .before .before) .pre)
 
 add-at : tie.Need-add-at
 unfolding clockLine
-add-at c = omega (arith, end-fits (c .before .before .before .before .before .before .before .put-number .ensures) (c .before .before .put .ensures) (c .before .before .before .before .before .before .before .before .before .before .before .pre), c .before .before .before .before .before .before .before .before .before .before .before .good)
+add-at c =
+    omega (
+      arith,
+      end-fits (after-number (c .before .before) .put-number .ensures) (c .before .before .put .ensures)
+          (begun (after-number (c .before .before)) .pre),
+      begun (after-number (c .before .before)) .good,
+    )
 
 same-length : tie.Need-same-length
 same-length c = search needs
 
 returns : tie.Need-returns
 unfolding clockLine
-returns c = behind (c .before .before .before .before .before .before .before .put-number .ensures) (c .before .before .put .ensures)
+returns c = behind (after-number (c .before .before) .put-number .ensures) (c .before .before .put .ensures)
 
 pub put-clock-spec : {M : Type 1} → statement M
 put-clock-spec =

@@ -8,6 +8,14 @@ use Rattle.rules.specs.Board.{deadWord, numbered}
 use Rattle.board.proofs.put_dead.Statement.{statement}
 use Rattle.board.proofs.put_dead.Tie as tie
 
+-- the place between the parts, seen from the next, and the start
+
+abbrev begun : tie.After-put → tie.Start
+begun c = c .before .before .before .before
+
+abbrev after-word : tie.After-put-number → tie.After-put
+after-word c = c .before .before .before .before .before
+
 -- the buffer has room for the first part too
 first : (c : tie.Start) → length deadWord ≤ length (c .args .buf .now)
 first c = front-fits deadWord (numbered (c .args .end)) (c .pre)
@@ -22,25 +30,31 @@ slice-aggregate-put-number : tie.Need-slice-aggregate-put-number
 slice-aggregate-put-number c = search needs
 
 sub-put-number : tie.Need-sub-put-number
-sub-put-number c = start-fits (c .before .before .before .put .ensures) (first (c .before .before .before .before .before .before .before))
+sub-put-number c = start-fits (c .before .before .before .put .ensures) (first (begun (c .before .before .before)))
 
 part-put-number-start : tie.Need-part-put-number-start
-part-put-number-start c = start-fits (c .before .before .before .put .ensures) (first (c .before .before .before .before .before .before .before))
+part-put-number-start c = start-fits (c .before .before .before .put .ensures) (first (begun (c .before .before .before)))
 
 part-put-number-end : tie.Need-part-put-number-end
 part-put-number-end c = search needs
 
 put-number-requires : tie.Need-put-number-requires
-put-number-requires c κs = rest-fits (c .before .before .before .before .put .ensures) (numbered _) (c .before .before .before .before .before .before .before .before .pre)
+put-number-requires c κs = rest-fits (c .before .before .before .before .put .ensures) (numbered _) (begun (c .before .before .before .before) .pre)
 
 add-at : tie.Need-add-at
-add-at c = omega (arith, end-fits (c .before .before .before .before .before .before .before .put .ensures) (c .before .before .put-number .ensures) (c .before .before .before .before .before .before .before .before .before .before .before .pre), c .before .before .before .before .before .before .before .before .before .before .before .good)
+add-at c =
+    omega (
+      arith,
+      end-fits (after-word (c .before .before) .put .ensures) (c .before .before .put-number .ensures)
+          (begun (after-word (c .before .before)) .pre),
+      begun (after-word (c .before .before)) .good,
+    )
 
 same-length : tie.Need-same-length
 same-length c = search needs
 
 returns : tie.Need-returns
-returns c = behind (c .before .before .before .before .before .before .before .put .ensures) (c .before .before .put-number .ensures)
+returns c = behind (after-word (c .before .before) .put .ensures) (c .before .before .put-number .ensures)
 
 pub put-dead-spec : {M : Type 1} → statement M
 put-dead-spec =

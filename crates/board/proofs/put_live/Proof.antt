@@ -9,6 +9,17 @@ use Rattle.rules.specs.Board.{liveWord, numbered}
 use Rattle.board.proofs.put_live.Statement.{statement}
 use Rattle.board.proofs.put_live.Tie as tie
 
+-- places between the parts, each seen from the next, and the start
+
+abbrev begun : tie.After-put → tie.Start
+begun c = c .before .before .before .before
+
+abbrev after-word : tie.After-put-number → tie.After-put
+after-word c = c .before .before .before .before .before
+
+abbrev after-window : tie.After-put-number2 → tie.After-put-number
+after-window c = c .before .before .before .before .before
+
 -- the buffer has room for the first parts too
 second : (c : tie.Start) → length (liveWord ++ numbered (c .args .window)) ≤ length (c .args .buf .now)
 second c = front-fits (liveWord ++ numbered (c .args .window)) (numbered (c .args .busy)) (c .pre)
@@ -26,49 +37,72 @@ slice-aggregate-put-number : tie.Need-slice-aggregate-put-number
 slice-aggregate-put-number c = search needs
 
 sub-put-number : tie.Need-sub-put-number
-sub-put-number c = start-fits (c .before .before .before .put .ensures) (first (c .before .before .before .before .before .before .before))
+sub-put-number c =
+    let w = c .before .before .before in
+    start-fits (w .put .ensures) (first (begun w))
 
 part-put-number-start : tie.Need-part-put-number-start
-part-put-number-start c = start-fits (c .before .before .before .put .ensures) (first (c .before .before .before .before .before .before .before))
+part-put-number-start c =
+    let w = c .before .before .before in
+    start-fits (w .put .ensures) (first (begun w))
 
 part-put-number-end : tie.Need-part-put-number-end
 part-put-number-end c = search needs
 
 put-number-requires : tie.Need-put-number-requires
-put-number-requires c κs = rest-fits (c .before .before .before .before .put .ensures) (numbered _) (second (c .before .before .before .before .before .before .before .before))
+put-number-requires c κs =
+    let w = c .before .before .before .before in
+    rest-fits (w .put .ensures) (numbered _) (second (begun w))
 
 add-at : tie.Need-add-at
-add-at c = omega (arith, end-fits (c .before .before .before .before .before .before .before .put .ensures) (c .before .before .put-number .ensures) (second (c .before .before .before .before .before .before .before .before .before .before .before)), c .before .before .before .before .before .before .before .before .before .before .before .good)
+add-at c =
+    omega (
+      arith,
+      end-fits (after-word (c .before .before) .put .ensures) (c .before .before .put-number .ensures)
+          (second (begun (after-word (c .before .before)))),
+      begun (after-word (c .before .before)) .good,
+    )
 
 slice-aggregate-put-number-2 : tie.Need-slice-aggregate-put-number-2
 slice-aggregate-put-number-2 c = search needs
 
 sub-put-number-2 : tie.Need-sub-put-number-2
-sub-put-number-2 c = start-fits (behind (c .before .before .before .before .before .before .before .before .put .ensures) (c .before .before .before .put-number .ensures)) (second (c .before .before .before .before .before .before .before .before .before .before .before .before))
+sub-put-number-2 c =
+    let n = c .before .before .before in
+    let w = after-word n in
+    start-fits (behind (w .put .ensures) (n .put-number .ensures)) (second (begun w))
 
 part-put-number-start-2 : tie.Need-part-put-number-start-2
-part-put-number-start-2 c = start-fits (behind (c .before .before .before .before .before .before .before .before .put .ensures) (c .before .before .before .put-number .ensures)) (second (c .before .before .before .before .before .before .before .before .before .before .before .before))
+part-put-number-start-2 c =
+    let n = c .before .before .before in
+    let w = after-word n in
+    start-fits (behind (w .put .ensures) (n .put-number .ensures)) (second (begun w))
 
 part-put-number-end-2 : tie.Need-part-put-number-end-2
 part-put-number-end-2 c = search needs
 
 put-number-requires-2 : tie.Need-put-number-requires-2
-put-number-requires-2 c κs = rest-fits (behind (c .before .before .before .before .before .before .before .before .before .put .ensures) (c .before .before .before .before .put-number .ensures)) (numbered _) (c .before .before .before .before .before .before .before .before .before .before .before .before .before .pre)
+put-number-requires-2 c κs =
+    let n = c .before .before .before .before in
+    let w = after-word n in
+    rest-fits (behind (w .put .ensures) (n .put-number .ensures)) (numbered _) (begun w .pre)
 
 add-at-2 : tie.Need-add-at-2
 add-at-2 c =
     omega (
       arith,
-      end-fits (behind (c .before .before .before .before .before .before .before .before .before .before .before .before .put .ensures) (c .before .before .before .before .before .before .before .put-number .ensures)) (c .before .before .put-number2 .ensures)
-          (c .before .before .before .before .before .before .before .before .before .before .before .before .before .before .before .before .pre),
-      c .before .before .before .before .before .before .before .before .before .before .before .before .before .before .before .before .good,
+      end-fits (behind (after-word (after-window (c .before .before)) .put .ensures) (after-window (c .before .before) .put-number .ensures)) (c .before .before .put-number2 .ensures)
+          (begun (after-word (after-window (c .before .before))) .pre),
+      begun (after-word (after-window (c .before .before))) .good,
     )
 
 same-length : tie.Need-same-length
 same-length c = search needs
 
 returns : tie.Need-returns
-returns c = behind (behind (c .before .before .before .before .before .before .before .before .before .before .before .before .put .ensures) (c .before .before .before .before .before .before .before .put-number .ensures)) (c .before .before .put-number2 .ensures)
+returns c =
+    let n = after-window (c .before .before) in
+    behind (behind (after-word n .put .ensures) (n .put-number .ensures)) (c .before .before .put-number2 .ensures)
 
 pub put-live-spec : {M : Type 1} → statement M
 put-live-spec =
