@@ -66,7 +66,11 @@ pub shaped : (s : State) → Given s → Shaped s
 shaped s g =
     record {
       destinations = length-of-map _ _ _ (s .destinations) 32 (g .1 .1 .1 .1 .1 .1 .0 .1 .0 .1);
-      busy = record { transport = length-of-map _ _ _ (s .busy .transport) 4 (g .1 .1 .1 .1 .1 .1 .1 .0 .1 .1 .0 .1 .0 .1); destination = length-of-map _ _ _ (s .busy .destination) 32 (g .1 .1 .1 .1 .1 .1 .1 .0 .1 .1 .1 .0 .1 .0 .1) };
+      busy =
+          record {
+            transport = length-of-map _ _ _ (s .busy .transport) 4 (g .1 .1 .1 .1 .1 .1 .1 .0 .1 .1 .0 .1 .0 .1);
+            destination = length-of-map _ _ _ (s .busy .destination) 32 (g .1 .1 .1 .1 .1 .1 .1 .0 .1 .1 .1 .0 .1 .0 .1);
+          };
       queues = length-of-map _ _ _ (s .queues) 4 (g .1 .1 .1 .1 .1 .1 .1 .1 .0 .1 .0 .1);
       queue = λ t l. queue-long s g t l;
       arrivals = length-of-map _ _ _ (s .arrivals .jobs) 32 (g .1 .1 .1 .1 .1 .1 .1 .1 .1 .0 .1 .1 .0 .1 .0 .1);

@@ -123,7 +123,10 @@ charge-returns-3 : (t : ℕ) → charge-lts.Need-returns-3 (
   charge-below t,
   charge.Post,
 ) (charge-at t) charge.Post
-charge-returns-3 t c = c .charge .ensures ∙ walk-more (c .before .before .before .before .before .before .before .args .parent .now) (c .before .before .before .before .before .before .before .args .sums .now) (c .before .before .before .before .before .before .before .args .m) (c .before .before .before .before .before .before .before .args .depth) (c .before .before .before .before .before .before .before .args .link) (c .before .before .before .added .result) (omega arith) (omega arith) (c .before .before .before .added .ensures)
+charge-returns-3 t c =
+    let a = c .before .before .before in
+    let x = a .before .before .before .before .args in
+    c .charge .ensures ∙ walk-more (x .parent .now) (x .sums .now) (x .m) (x .depth) (x .link) (a .added .result) (omega arith) (omega arith) (a .added .ensures)
 
 pub +charge-spec : {M : Type 1} → statement M
 +charge-spec = close μ-charge λ t. charge-lts.spec (
