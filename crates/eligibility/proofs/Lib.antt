@@ -1,4 +1,3 @@
-pub mod Filling
 pub mod Rooms
 pub mod Lefts
 pub mod Pairs

@@ -1,25 +1,33 @@
--- `eligibility::left_waiting` meets its contract. Invariant: the table is filled below j (`Filled`). Measure: the jobs left. Assumes nothing.
-use Prim.Native.Nat.{_-_}
-use mathlib.Core.Path.{_≡_}
+-- `eligibility::left_waiting` meets its contract. Invariant: the table of zeros is filled below j. Measure: the jobs left. Assumes nothing.
+use Prim.Native.Nat.{ℕ, _-_, _≤_}
+use mathlib.Core.Path.{_≡_, _∙_, ap}
+use mathlib.Core.List.{_++_}
 use native.Mathlib.Omega.{arith}
+use lib.ListN.{drop, replicate, getD-replicate, List·getD-append}
+use Rattle.laws.specs.Range.{tableTo}
+use Rattle.laws.proofs.Table.{length-table, getD-table}
+use Rattle.laws.proofs.Fill.{getD-fill, fill-none, fill-more}
+use Rattle.rules.specs.State.{at}
 use Rattle.eligibility.specs.Eligibility.{leftIn}
-use Rattle.eligibility.proofs.Filling.{Filled, filled-none, filled-more}
 use Rattle.eligibility.proofs.left_waiting.Statement.{statement}
 use Rattle.eligibility.proofs.left_waiting.Tie as tie
 
 abbrev Inv-loop : tie.InvT-loop
-Inv-loop present n picked dropped waits₀ j₀ waits j = Filled (leftIn present n picked dropped) 0 waits j
+Inv-loop present n picked dropped waits₀ j₀ waits j = (waits ≡ tableTo (leftIn present n picked dropped) j ++ drop j (replicate 256 0)) × (j ≤ 32)
 
 abbrev μ-loop : tie.MeasureT-loop
 μ-loop present n picked dropped waits₀ j₀ waits j = 32 - j
 
--- the round that a job belongs to, seen from its end
+-- what waits of each job, and the round that a job belongs to, seen from its end
+
+abbrev left : tie.Start Inv-loop μ-loop → ℕ → ℕ
+left c = leftIn (c .args .present .now) (c .args .n .now) (c .args .picked .now) (c .args .dropped .now)
 
 abbrev round : tie.After-left-of Inv-loop μ-loop → tie.In-loop Inv-loop μ-loop
 round c = c .before .before .before .before .before
 
 loop-holds : tie.Need-loop-holds Inv-loop μ-loop
-loop-holds c = filled-none _ _
+loop-holds c = (fill-none (left c) (replicate 256 0), omega arith)
 
 element-copy-out-left-of : tie.Need-element-copy-out-left-of Inv-loop μ-loop
 element-copy-out-left-of c = c .loop-test .taken
@@ -59,11 +67,18 @@ loop-less c = omega (arith, round c .loop-test .taken)
 
 loop-again : tie.Need-loop-again Inv-loop μ-loop
 unfolding leftIn
-loop-again c = filled-more (round c .before .loop .inv) (round c .loop-test .taken) (c .left-of .ensures)
+loop-again c =
+    let l = round c .before in
+    (fill-more (left (l .before)) (replicate 256 0) (l .loop .j) (omega (arith, round c .loop-test .taken)) (l .loop .inv .0) (c .left-of .ensures), omega (arith, round c .loop-test .taken))
 
 returns : tie.Need-returns Inv-loop μ-loop
-returns c = let e : c .before .loop .j ≡ 32 = omega (arith, c .loop-test .left, c .before .loop .inv .bound) in
-    ((λ k l. c .before .loop .inv .below k (omega arith)), λ k l m. c .before .loop .inv .above k (omega arith) m)
+returns c =
+    let e : c .before .loop .j ≡ 32 = omega (arith, c .loop-test .left, c .before .loop .inv .1) in
+    let f = left (c .before .before) in
+    let h = rw e at (c .before .loop .inv .0) in (
+      λ k l. ap (λ w. at w k) h ∙ List·getD-append (tableTo f 32) (drop 32 (replicate 256 0)) 0 k (rw length-table l) ∙ getD-table f 32 k 0 l,
+      λ k l m. ap (λ w. at w k) h ∙ getD-fill f (replicate 256 0) 32 k 0 l ∙ getD-replicate 256 k 0 0 m,
+    )
 
 pub left-waiting-spec : {M : Type 1} → statement M
 left-waiting-spec =
