@@ -4,14 +4,13 @@ use mathlib.Core.Bool.{Bool, true, false, not, _&&_}
 use mathlib.Core.Path.{_≡_, refl, sym, _∙_}
 use mathlib.Core.Logic.{⊎-elim}
 use mathlib.Core.List.{List}
-use native.Mathlib.Decide.{decLt}
 use native.Mathlib.Omega.{arith}
 use lib.Dec.{eqb, leb}
-use lib.ListN.{length, getD, List·getD-eq-default}
+use lib.ListN.{getD}
 use borrow.Author.Tests.{eqb-true, lt-ltb, le-leb, eq-eqb, not-true}
 use Rattle.laws.specs.Range.{allTo, anyTo}
 use Rattle.laws.specs.Sequence.{holds, timesIn, everyIn, holdsEachOnce, neverFalling}
-use Rattle.laws.proofs.Choice.{true-not-false, case-bool, false-of, and-both, and-left, and-right, or-left, or-right, not-is-true, eqb-self}
+use Rattle.laws.proofs.Choice.{case-bool, false-of, and-both, and-left, and-right, or-left, or-right, not-is-true, eqb-self}
 use Rattle.laws.proofs.All.{all-from, any-witness}
 use Rattle.laws.proofs.Count.{count-pos-of, count-none}
 use Rattle.laws.proofs.Sequence.{every-from}
@@ -23,6 +22,8 @@ use Rattle.rules.specs.State.{jobOf, destinationOf, isPresent, hasPreempted, wa
 use Rattle.rules.specs.Setup.{setupInRange}
 use Rattle.rules.specs.Sound.{implies, isJobOn, orderOf, costOf, sound}
 use Rattle.rules.specs.SoundFacts.{EntrySound, ChildOf, DestinationSound}
+use Rattle.rules.proofs.Shape.{Shaped}
+use Rattle.rules.proofs.EntryFacts.{present-below}
 use Rattle.rules.proofs.RangeFacts.{within-of, implies-of, in-range-of, sums-fit-of}
 use Rattle.rules.proofs.Soundness.{sound-facts}
 use Rattle.counting.specs.declared.EntryCounts.{EntryCounts}
@@ -74,14 +75,8 @@ module _ (s : State) where
 
   -- Entries.
 
-  module _ (long : length (s .jobs .present) ≡ 32) (table : List Bool)
+  module _ (shape : Shaped s) (table : List Bool)
       (marks : (j : ℕ) → j < 32 → isPresent s j ≡ true → (d : ℕ) → d < 256 → getD table (256 * j + d) false ≡ holds d (orderList (s .jobs .order) j (at (s .jobs .places) j))) where
-    present-below : (j : ℕ) → isPresent s j ≡ true → j < 32
-    present-below j p = elim (decLt j 32) [
-      | yes l ↦ l
-      | no n ↦ true-not-false p (List·getD-eq-default (s .jobs .present) false (omega arith))
-    ]
-
     marked : ℕ → Bool
     marked e = getD table (256 * jobOf s e + destinationOf s e) false
 
@@ -103,7 +98,7 @@ module _ (s : State) where
         used-of e λ f.
         (let r = sound-facts s h in
         let k = r .entries e l f in
-        let b = present-below (jobOf s e) (k .present) in
+        let b = present-below s shape (jobOf s e) (k .present) in
         let d : destinationOf s e < 256 = omega (arith, k .destination, r .setup .destinations .1) in (
           k,
           marks (jobOf s e) b (k .present) (destinationOf s e) d ∙ r .jobs (jobOf s e) b (k .present) .complete e l (and-both (not-is-true f) (eqb-self (jobOf s e))),

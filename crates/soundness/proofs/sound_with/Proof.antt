@@ -14,7 +14,9 @@ use Rattle.rules.specs.Sound.{sound}
 use Rattle.counting.specs.declared.EntryCounts.{EntryCounts}
 use Rattle.counting.specs.Counting.{noPairs, Pairs}
 use Rattle.counting.proofs.EntryLaws.{counts-within}
+use Rattle.rules.proofs.Shape.{Shaped, present-length}
 use Rattle.rules.proofs.RangeFacts.{home-below}
+use Rattle.columns.proofs.Shapes.{shaped}
 use Rattle.clauses.proofs.Ranges.{transports-few, destinations-few}
 use Rattle.soundness.proofs.PartsOfSound.{part-range, part-turn, part-orders, part-entries, part-on, part-to, part-jobs, part-queues, part-arrivals, part-rising}
 use Rattle.soundness.proofs.SoundOfParts.{whole}
@@ -100,14 +102,9 @@ in-range c = sym (c .before .in-range .ensures) ∙ not-false _ (c .if1 .left)
 ranged : (c : tie.Else4) → setupInRange (state c .setup) ≡ true
 ranged c = in-range (past-range (marked c))
 
-present-long : (c : tie.Start) → length (c .args .s .jobs .present) ≡ 32
-present-long c = search needs
-
-on-long : (c : tie.Start) → length (c .args .s .busy .transport) ≡ 4
-on-long c = search needs
-
-to-long : (c : tie.Start) → length (c .args .s .busy .destination) ≡ 32
-to-long c = search needs
+-- a state that came in has its shape
+shape : (c : tie.Start) → Shaped (c .args .s)
+shape c = shaped (c .args .s) (c .good .0)
 
 -- where the answer is no, the table is as it came
 empty : {r : Bool} {kind job destination table : List ℕ} → r ≡ false → table ≡ noPairs → Pairs r kind job destination table
@@ -160,13 +157,13 @@ count-entries-requires : tie.Need-count-entries-requires
 count-entries-requires c κs =
     let o = c .before .before .before .before .before .before .before .before .before .before .before in
     let u = in-range (past-range o) in
-    (destinations-few _ u, (present-long (begun o), (home-below _ u, begun o .pre)))
+    (destinations-few _ u, (present-length (shape (begun o) .jobs), (home-below _ u, begun o .pre)))
 
 returns-4 : tie.Need-returns-4
 returns-4 c =
     let k = c .before .before in
     let o = past-orders k in
-    answers-no (begun o .args .s) (part-entries (begun o .args .s) (present-long (begun o)) _ (o .before .mark-orders .ensures .marks (ordered o))) (k .count-entries .ensures .0 .right)
+    answers-no (begun o .args .s) (part-entries (begun o .args .s) (shape (begun o)) _ (o .before .mark-orders .ensures .marks (ordered o))) (k .count-entries .ensures .0 .right)
     (not-true _ (c .if4 .taken)) (refl, k .count-entries .ensures .1 .none (not-true _ (c .if4 .taken)))
 
 slice-aggregate-agree : tie.Need-slice-aggregate-agree
@@ -175,7 +172,7 @@ slice-aggregate-agree c = search needs
 agree-requires : tie.Need-agree-requires
 agree-requires c κs =
     let k = c .before .before .before .before .before .before .before .before .before .before in
-    few (transports-few _ (ranged k)) (on-long (begun (marked k))) (counting k .count-entries .ensures .0 .tables (all-good k) .on .size)
+    few (transports-few _ (ranged k)) (shape (begun (marked k)) .busy .transport) (counting k .count-entries .ensures .0 .tables (all-good k) .on .size)
 
 unsound-requires : tie.Need-unsound-requires
 unsound-requires c κs = tt
@@ -195,7 +192,7 @@ slice-aggregate-agree-2 c =
 agree-requires-2 : tie.Need-agree-requires-2
 agree-requires-2 c κs =
     let k = counted5 (c .before .before .before .before) in
-    few (destinations-few _ (ranged k)) (to-long (begun (marked k))) (counting k .count-entries .ensures .0 .tables (all-good k) .to .size)
+    few (destinations-few _ (ranged k)) (shape (begun (marked k)) .busy .destination) (counting k .count-entries .ensures .0 .tables (all-good k) .to .size)
 
 unsound-requires-2 : tie.Need-unsound-requires-2
 unsound-requires-2 c κs = tt
