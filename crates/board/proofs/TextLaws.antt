@@ -12,10 +12,9 @@ use Rattle.rules.specs.declared.Health.{Health}
 use Rattle.rules.specs.declared.Health.the-variants.{Live, Dead}
 use Rattle.rules.specs.declared.Destination.{Destination}
 use Rattle.rules.specs.State.{at, zeroDestination}
-use Rattle.rules.specs.Board.{decimal, healthText, clockLine, destinationLine}
+use Rattle.rules.specs.Board.{decimal, healthText, clockLine, destinationLine, linesOf, textOf}
 use Rattle.writing.proofs.Decimals.{decimal-length}
 use Rattle.board.specs.Text.{liveText, deadText}
-use Rattle.rules.specs.Board.{linesOf, textOf}
 use Rattle.laws.specs.Wrote.{Wrote}
 use Rattle.laws.proofs.Writing.{wrote-as, wrote-again, wrote-since, wrote-length, behind, start-fits, rest-fits}
 use borrow.Rule.Slice.PartMut.{midOf, putMid}

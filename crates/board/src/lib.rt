@@ -7,9 +7,8 @@ use writing::put_number;
 ghost use mathlib.Core.Path.{_≡_};
 ghost use Prim.Native.Nat.{_≤_};
 ghost use lib.ListN.{length};
-ghost use Rattle.rules.specs.Board.{clockLine, healthText, destinationLine};
+ghost use Rattle.rules.specs.Board.{clockLine, healthText, destinationLine, textOf};
 ghost use Rattle.board.specs.Text.{liveText, deadText};
-ghost use Rattle.rules.specs.Board.{textOf};
 ghost use Rattle.laws.specs.Wrote.{Wrote};
 
 // The first line: AT and the clock.

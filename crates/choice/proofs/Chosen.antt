@@ -24,9 +24,8 @@ use Rattle.rules.proofs.RangeFacts.{within-facts}
 use Rattle.rules.proofs.Picked.{Current}
 use Rattle.rules.proofs.Preemptor.{preemptor-found}
 use Rattle.choice.specs.declared.Choice.{Choice}
-use Rattle.preemption.specs.Preempting.{waitingAt}
+use Rattle.preemption.specs.Preempting.{waitingAt, Arrived}
 use Rattle.choice.specs.Choosing.{pickedFrom, nothing, chosen, chosenWith, chosenOn, choiceOf}
-use Rattle.preemption.specs.Preempting.{Arrived}
 
 -- the slots of settings in range
 pub slots-read : (g : Settings) → settingsInRange g ≡ true → (g .cost ≤ 100) × (g .minimum ≤ 100) × (g .loan ≤ 100) × (g .discount ≤ 100)

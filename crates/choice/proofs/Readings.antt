@@ -25,8 +25,7 @@ use Rattle.rules.proofs.Shape.{Shaped}
 use Rattle.rules.proofs.EntryFacts.{present-below, waiting-used, eligible-of-eligible, eligible-of-job, eligible-sound}
 use Rattle.rules.proofs.Turns.{steps-found}
 use Rattle.rules.proofs.Picked.{queue-job, TransportFound, transport-found, Current, current-found, next-found}
-use Rattle.eligibility.specs.Eligibility.{waitsIn, Adds}
-use Rattle.eligibility.specs.Eligibility.{Reads, openPlace}
+use Rattle.eligibility.specs.Eligibility.{waitsIn, Adds, Reads, openPlace}
 use Rattle.turns.specs.Turns.{frontOf, aheadOf, hasFront, frontSteps, Turned, Placed}
 
 -- turns that ask the same

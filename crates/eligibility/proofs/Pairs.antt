@@ -22,8 +22,7 @@ use Rattle.rules.proofs.Shape.{Shaped}
 use Rattle.rules.proofs.EntryFacts.{present-below, waiting-used, eligible-of-eligible, eligible-of-job, eligible-sound}
 use Rattle.counting.specs.Counting.{countsTo, Paired}
 use Rattle.counting.proofs.PairLaws.{pair-test}
-use Rattle.eligibility.specs.Eligibility.{isOpen, waitsIn, openPair, openTo, readyIn, waitsFor}
-use Rattle.eligibility.specs.Eligibility.{Reads, openPlace}
+use Rattle.eligibility.specs.Eligibility.{isOpen, waitsIn, openPair, openTo, readyIn, waitsFor, Reads, openPlace}
 
 -- who is ready: of the 32 jobs, and past them
 

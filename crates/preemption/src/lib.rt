@@ -15,10 +15,8 @@ ghost use Rattle.rules.specs.declared.State.{State};
 ghost use Rattle.rules.specs.Sizes.{lastSecond};
 ghost use Rattle.rules.specs.State.{at, settingsOf, waitingOf};
 ghost use Rattle.rules.specs.Preemption.{credit, hasCredit, owned, creditOf, paysFor, bestCandidate, preemptorOf};
-ghost use Rattle.eligibility.specs.Eligibility.{readyIn};
-ghost use Rattle.preemption.specs.Preempting.{waitingAt};
-ghost use Rattle.eligibility.specs.Eligibility.{Reads};
-ghost use Rattle.preemption.specs.Preempting.{Arrived};
+ghost use Rattle.eligibility.specs.Eligibility.{readyIn, Reads};
+ghost use Rattle.preemption.specs.Preempting.{waitingAt, Arrived};
 
 // "a = s - c·q, which may be negative"
 fn slot_credit(cost: u64, picked: u64, sold: u64) -> i64

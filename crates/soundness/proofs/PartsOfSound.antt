@@ -27,11 +27,9 @@ use Rattle.rules.proofs.EntryFacts.{present-below}
 use Rattle.rules.proofs.RangeFacts.{within-of, implies-of, in-range-of, sums-fit-of}
 use Rattle.rules.proofs.Soundness.{sound-facts}
 use Rattle.counting.specs.declared.EntryCounts.{EntryCounts}
-use Rattle.listing.specs.Listing.{orderList, distinct, orderTest}
-use Rattle.clauses.specs.Clauses.{countsTest, soldTest, childTest, jobTest}
+use Rattle.listing.specs.Listing.{orderList, distinct, orderTest, queueTest}
+use Rattle.clauses.specs.Clauses.{countsTest, soldTest, childTest, jobTest, healthTest, destinationTest}
 use Rattle.counting.specs.Counting.{belongsAt, belongsTest, entryTest, Tables}
-use Rattle.listing.specs.Listing.{queueTest}
-use Rattle.clauses.specs.Clauses.{healthTest, destinationTest}
 use Rattle.soundness.proofs.Counted.{columnsOf, waiting-is, busy-is, held-is, to-is, on-is}
 
 module _ (s : State) where

@@ -26,11 +26,9 @@ use Rattle.rules.specs.SoundFacts.{InRange, EntrySound, QueueSound, ArrivalsSou
 use Rattle.rules.proofs.RangeFacts.{within-facts, implies-at, in-range-facts, sums-fit-facts}
 use Rattle.rules.proofs.Soundness.{sound-of}
 use Rattle.counting.specs.declared.EntryCounts.{EntryCounts}
-use Rattle.listing.specs.Listing.{orderList, distinct, orderTest}
-use Rattle.clauses.specs.Clauses.{countsTest, soldTest, childTest, jobTest}
+use Rattle.listing.specs.Listing.{orderList, distinct, orderTest, queueTest}
+use Rattle.clauses.specs.Clauses.{countsTest, soldTest, childTest, jobTest, healthTest, destinationTest}
 use Rattle.counting.specs.Counting.{belongsAt, belongsTest, entryTest, Tables}
-use Rattle.listing.specs.Listing.{queueTest}
-use Rattle.clauses.specs.Clauses.{healthTest, destinationTest}
 use Rattle.clauses.proofs.JobLaws.{child-near}
 use Rattle.soundness.proofs.Counted.{columnsOf, waiting-is, busy-is, held-is, to-is, on-is}
 use Rattle.soundness.proofs.PartsOfSound.{part-destinations}

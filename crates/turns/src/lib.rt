@@ -7,9 +7,8 @@ ghost use mathlib.Core.Path.{_≡_};
 ghost use Prim.Native.Nat.{_+_, _%_, _<_, _≤_};
 ghost use lib.ListN.{length, take};
 ghost use Rattle.rules.specs.Picking.{stepsTo};
-ghost use Rattle.eligibility.specs.Eligibility.{readyIn};
+ghost use Rattle.eligibility.specs.Eligibility.{readyIn, openPlace};
 ghost use Rattle.turns.specs.Turns.{frontOf, aheadOf, Lists, Turned, Placed};
-ghost use Rattle.eligibility.specs.Eligibility.{openPlace};
 
 // The first job of a list that is ready, and how many before it have a waiting entry.
 pub struct Front {

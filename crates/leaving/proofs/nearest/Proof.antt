@@ -57,8 +57,7 @@ loop-less c = omega arith
 loop-again : tie.Need-loop-again Inv-loop μ-loop
 loop-again c = (
   nearest-on (λ x. getD (looped (read c) .before .args .stays .now) x false) (at (looped (read c) .before .args .parent .now)) (looped (read c) .loop .left) (looped (read c) .loop .link)
-      (read c .wide .result) (omega arith) (omega arith) (read c .wide .ensures .0) (c .before .if2 .left)
-      ∙ looped (read c) .loop .inv .0,
+      (read c .wide .result) (omega arith) (omega arith) (read c .wide .ensures .0) (c .before .if2 .left) ∙ looped (read c) .loop .inv .0,
   rw (read c .wide .ensures .0) (leads-next _ _ _ (omega arith) (omega arith) (looped (read c) .loop .inv .1)),
 )
 

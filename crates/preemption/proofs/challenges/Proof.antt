@@ -105,8 +105,7 @@ greater-requires c κs =
     let x = begun i .args in (
       age-fits (x .time) (aged c .before .before .wide32 .result) (begun i .pre .0) .1,
       c .before .before .wide16 .ensures .1,
-      age-fits
-          (x .time) (aged c .wide322 .result) (begun i .pre .0) .1,
+      age-fits (x .time) (aged c .wide322 .result) (begun i .pre .0) .1,
       c .wide162 .ensures .1,
     )
 

@@ -13,8 +13,7 @@ use Rattle.rules.specs.declared.State.{State}
 use Rattle.rules.specs.State.{at, settingsOf}
 use Rattle.rules.specs.Preemption.{credit, hasCredit, owned, bestCandidate, paysFor}
 use Rattle.rules.proofs.Preemptor.{credit-owned}
-use Rattle.eligibility.specs.Eligibility.{readyIn}
-use Rattle.eligibility.specs.Eligibility.{Reads}
+use Rattle.eligibility.specs.Eligibility.{readyIn, Reads}
 use Rattle.preemption.proofs.Credits.{link-suc, index-fits, same-below, positive, sum-fits, less-by, le-by, rest-small}
 use Rattle.preemption.proofs.Preempts.{preempts-off, preempts-broke, preempts-short, preempts-none, preempts-unpaid, preempts-some, most-read}
 use Rattle.preemption.proofs.find_preemptor.Statement.{statement}

@@ -79,8 +79,7 @@ slice-write-list c =
     omega (
       arith,
       put-few _ _ _ _ _ _ (begun (looped (tested (c .before))) .pre) (looped (tested (c .before)) .loop .inv),
-      put-length _ _ _ _ _ _
-          (begun (looped (tested (c .before))) .pre) (looped (tested (c .before)) .loop .inv),
+      put-length _ _ _ _ _ _ (begun (looped (tested (c .before))) .pre) (looped (tested (c .before)) .loop .inv),
       begun (looped (tested (c .before))) .pre .places,
     )
 

@@ -6,17 +6,15 @@ use mathlib.Core.Path.{_≡_, sym, _∙_, ap}
 use mathlib.Core.List.{List}
 use mathlib.Core.Logic.{⊎-elim}
 use mathlib.Core.Bool.{true, false, _&&_}
-use lib.ListN.{length, getD}
+use lib.ListN.{length, getD, List·getD-eq-default}
 use lib.Dec.{leb}
 use borrow.Author.Tests.{not-true, not-false}
 use Rattle.laws.specs.Range.{allTo}
 use Rattle.laws.proofs.All.{all-false-of, all-none, all-more}
-use Rattle.rules.specs.State.{at}
+use Rattle.rules.specs.State.{at, zeroSettings}
 use Rattle.rules.specs.declared.Jobs.{Jobs}
-use Rattle.rules.specs.State.{zeroSettings}
 use Rattle.rules.specs.Sound.{implies}
 use Rattle.clauses.specs.Clauses.{jobTest}
-use lib.ListN.{List·getD-eq-default}
 use Rattle.rules.specs.declared.Settings.{Settings}
 use Rattle.columns.proofs.Shapes.{length-of-map}
 use Rattle.clauses.proofs.JobLaws.{job-tested, asked-false, asked-not, asked-true}
