@@ -8,13 +8,9 @@ use Rattle.rules.specs.declared.State.{State}
 use Rattle.rules.specs.State.{at, isPresent}
 use Rattle.rules.specs.Sound.{sound}
 use Rattle.rules.specs.Refusals.{askRefusal}
-use Rattle.rules.specs.Calls.{ask, refused, granted, unlessRefused, replyTo, askReply}
-use Rattle.rules.proofs.Replies.{reply-unsound}
+use Rattle.rules.specs.Calls.{refused, granted, unlessRefused, replyTo, askReply}
 
 module _ (s : State) (j : ℕ) where
-  pub ask-unsound : sound s ≡ false → record { says = refused 1; state = s; buffer = [] } ≡ askReply s j
-  ask-unsound h = reply-unsound s (ask j) h
-
   pub ask-absent : sound s ≡ true → isPresent s j ≡ false → record { says = refused 11; state = s; buffer = [] } ≡ askReply s j
   unfolding replyTo askRefusal unlessRefused if_then_else_
   ask-absent h p = rw (h, p) refl

@@ -1,7 +1,7 @@
 -- The ways that asking for the board text can end: what the code gives there is the rules' reply.
 use Prim.Native.Nat.{ℕ, _≤_, _<_}
 use mathlib.Core.Path.{_≡_, refl, subst}
-use mathlib.Core.Bool.{true, false}
+use mathlib.Core.Bool.{true}
 use mathlib.Core.List.{List, [], _∷_, _++_}
 use lib.ListN.{length, drop}
 use borrow.Author.Tests.{lt-ltb, le-ltb}
@@ -10,13 +10,9 @@ use Rattle.rules.specs.declared.State.{State}
 use Rattle.rules.specs.Sound.{sound}
 use Rattle.rules.specs.Board.{textOf, boardText}
 use Rattle.rules.specs.Refusals.{boardRefusal}
-use Rattle.rules.specs.Calls.{board, refused, granted, unlessRefused, replyTo, boardReply}
-use Rattle.rules.proofs.Replies.{reply-unsound}
+use Rattle.rules.specs.Calls.{refused, granted, unlessRefused, replyTo, boardReply}
 
 module _ (s : State) (buffer : List ℕ) where
-  pub board-unsound : sound s ≡ false → record { says = refused 1; state = s; buffer = buffer } ≡ boardReply s buffer
-  board-unsound h = reply-unsound s (board buffer) h
-
   -- the text, over what the code reads of the state
   abbrev text : List ℕ
   text = textOf (s .clock) (s .setup .destinations) (s .destinations) (s .busy .destination)

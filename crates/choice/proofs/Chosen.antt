@@ -1,45 +1,24 @@
 -- What a sound state has ready for the leaf functions, and their answers put together.
 use Prim.Native.Nat.{ℕ, zero, suc, _*_, _≤_, _<_}
-use mathlib.Core.Bool.{true, false, _||_}
+use mathlib.Core.Bool.{true, false}
 use mathlib.Core.Path.{_≡_, sym, _∙_, ap, subst}
-use mathlib.Core.Logic.{⊎-elim}
 use native.Mathlib.Omega.{arith}
-use lib.Dec.{eqb}
 use lib.Seq.{getD-take, length-take-le}
-use borrow.Author.Tests.{eqb-true}
 use Rattle.laws.specs.Sequence.{holds}
-use Rattle.laws.proofs.Choice.{and-left, or-cases, if-true, if-false}
-use Rattle.laws.proofs.Tests.{and-5}
+use Rattle.laws.proofs.Choice.{if-true, if-false}
 use Rattle.laws.proofs.Sequence.{holds-getD}
 use Rattle.laws.proofs.Once.{once-facts}
-use Rattle.rules.specs.declared.Settings.{Settings}
 use Rattle.rules.specs.declared.State.{State}
-use Rattle.rules.specs.Setup.{within, slotsInRange, windowsInRange, settingsInRange}
 use Rattle.rules.specs.SoundFacts.{Sound}
 use Rattle.rules.specs.State.{at, settingsOf, listOf, isPresent}
 use Rattle.rules.specs.Picking.{finds, hasEligible, nextTransport, currentJob, passedOver, nextPlace, nextEntry}
 use Rattle.rules.specs.Preemption.{preemptorOf}
 use Rattle.rules.proofs.Shape.{Shaped}
-use Rattle.rules.proofs.RangeFacts.{within-facts}
 use Rattle.rules.proofs.Picked.{Current}
 use Rattle.rules.proofs.Preemptor.{preemptor-found}
 use Rattle.choice.specs.declared.Choice.{Choice}
 use Rattle.preemption.specs.Preempting.{waitingAt, Arrived}
 use Rattle.choice.specs.Choosing.{pickedFrom, nothing, chosen, chosenWith, chosenOn, choiceOf}
-
--- the slots of settings in range
-pub slots-read : (g : Settings) → settingsInRange g ≡ true → (g .cost ≤ 100) × (g .minimum ≤ 100) × (g .loan ≤ 100) × (g .discount ≤ 100)
-unfolding settingsInRange slotsInRange
-slots-read g r =
-    let f =
-    and-5 (within 1 100 (g .agents)) (eqb (g .cost) 0 || within 2 100 (g .cost)) (within 0 100 (g .loan)) (within 0 100 (g .discount)) (within 0 100 (g .minimum))
-    (and-left (slotsInRange g) (windowsInRange g) r)
-    in (
-      ⊎-elim (λ z. omega (arith, eqb-true (g .cost) 0 z)) (λ z. within-facts z .1) (or-cases (eqb (g .cost) 0) (within 2 100 (g .cost)) (f .1)),
-      within-facts (f .4) .1,
-      within-facts (f .2) .1,
-      within-facts (f .3) .1,
-    )
 
 module _ (w : State) (shape : Shaped w) (h : Sound w) where
   pub arrived-read : (now : ℕ) → w .clock ≤ now → Arrived (w .jobs .arrival) (w .arrivals .jobs) (w .arrivals .count) now

@@ -6,7 +6,9 @@ use borrow.Author.Tests.{not-true, not-false}
 use Rattle.rules.proofs.Shape.{present-length}
 use Rattle.columns.proofs.Shapes.{shaped}
 use Rattle.rules.specs.Sound.{sound}
-use Rattle.asking.proofs.AskReplies.{ask-unsound, ask-absent, ask-answered}
+use Rattle.rules.specs.Calls.{Call}
+use Rattle.rules.proofs.Replies.{reply-unsound}
+use Rattle.asking.proofs.AskReplies.{ask-absent, ask-answered}
 use borrow.Author.Needs.{needs}
 use Rattle.asking.proofs.ask.Statement.{statement}
 use Rattle.asking.proofs.ask.Tie as tie
@@ -26,7 +28,7 @@ sound-requires : tie.Need-sound-requires
 sound-requires c κs = search needs
 
 returns : tie.Need-returns
-returns c = ask-unsound (c .before .before .args .s) (c .before .before .args .job) (sym (c .before .sound .ensures) ∙ not-true _ (c .if1 .taken))
+returns c = reply-unsound (c .before .before .args .s) (Call.ask (c .before .before .args .job)) (sym (c .before .sound .ensures) ∙ not-true _ (c .if1 .taken))
 
 returns-2 : tie.Need-returns-2
 returns-2 c =

@@ -7,7 +7,9 @@ use borrow.Author.Tests.{not-true, not-false}
 use Rattle.rules.specs.declared.State.{State}
 use Rattle.rules.specs.Sound.{sound}
 use Rattle.rules.specs.Board.{textOf}
-use Rattle.asking.proofs.BoardReplies.{board-unsound, board-short, board-fits, board-written}
+use Rattle.rules.specs.Calls.{Call}
+use Rattle.rules.proofs.Replies.{reply-unsound}
+use Rattle.asking.proofs.BoardReplies.{board-short, board-fits, board-written}
 use Rattle.rules.proofs.Soundness.{few-destinations}
 use borrow.Author.Needs.{needs}
 use Rattle.asking.proofs.board.Statement.{statement}
@@ -41,7 +43,9 @@ sound-requires : tie.Need-sound-requires
 sound-requires c κs = search needs
 
 returns : tie.Need-returns
-returns c = board-unsound (c .before .before .before .args .s) _ (sym (c .before .sound .ensures) ∙ not-true _ (c .if1 .taken))
+returns c =
+    reply-unsound (c .before .before .before .args .s) (Call.board _)
+    (sym (c .before .sound .ensures) ∙ not-true _ (c .if1 .taken))
 
 text-length-requires : tie.Need-text-length-requires
 text-length-requires c κs = few-destinations (begun (c .before .before) .args .s) (whole (c .before .before))

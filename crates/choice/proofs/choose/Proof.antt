@@ -24,7 +24,8 @@ use Rattle.preemption.proofs.Credits.{index-fits, same-below}
 use Rattle.eligibility.proofs.Lefts.{left-is, fits-left}
 use Rattle.eligibility.proofs.Pairs.{pairs-read, place-open, first-read}
 use Rattle.choice.proofs.Readings.{TurnRead, adds-read, turn-read, not-found, next-open, placed-read, entry-read}
-use Rattle.choice.proofs.Chosen.{slots-read, arrived-read, sold-read, job-read, nothing-chosen, all-chosen}
+use Rattle.rules.proofs.RangeFacts.{slots-range}
+use Rattle.choice.proofs.Chosen.{arrived-read, sold-read, job-read, nothing-chosen, all-chosen}
 use Rattle.choice.proofs.choose.Statement.{statement}
 use Rattle.choice.proofs.choose.Tie as tie
 
@@ -200,15 +201,15 @@ find-preemptor-requires c κs =
     let t = tabled (asked f) in
     let h = right t in
     let r = turned f in
-    let g = slots-read (getD (state t .setup .settings) (i .wide .result) zeroSettings)
+    let g = slots-range (getD (state t .setup .settings) (i .wide .result) zeroSettings)
     (subst (λ x. settingsInRange x ≡ true) (settings-at i) (h .setup .settings (turn f .transport) (r .transport .below))) in (
       (begun t .pre .2, h .arrivals .count, formed t .arrivals, arrived-read (state t) (formed t) h (time t) (begun t .pre .1)),
       (
         r .is .below,
-        g .0,
-        g .1,
-        g .2,
-        g .3,
+        g .dear,
+        g .minimum,
+        g .loan,
+        g .discount,
         subst (λ x. x .cost * at (state t .jobs .sold) (turn f .job) ≤ 256) (settings-at i) (sold-read (state t) (formed t) h (turn f .transport) (turn f .job) (r .is)),
       ),
     )
