@@ -101,7 +101,7 @@ loop-holds : tie.Need-loop-holds Inv-loop μ-loop
 loop-holds c = (sym (all-none _), omega arith)
 
 element-copy-out-if1 : tie.Need-element-copy-out-if1 Inv-loop μ-loop
-element-copy-out-if1 c = omega arith
+element-copy-out-if1 c = c .loop-test .taken
 
 add-j : tie.Need-add-j Inv-loop μ-loop
 add-j c = omega arith
@@ -113,7 +113,7 @@ loop-again : tie.Need-loop-again Inv-loop μ-loop
 loop-again c = (all-more _ _ (c .before .before .before .loop .inv .0) (asked-not _ (not-true _ (c .if1 .taken))), omega arith)
 
 element-copy-out-t : tie.Need-element-copy-out-t Inv-loop μ-loop
-element-copy-out-t c = omega arith
+element-copy-out-t c = c .before .before .loop-test .taken
 
 cast-settings : tie.Need-cast-settings Inv-loop μ-loop
 cast-settings c = omega arith
@@ -128,37 +128,37 @@ mul-n : tie.Need-mul-n Inv-loop μ-loop
 mul-n c = omega arith
 
 element-copy-out-n : tie.Need-element-copy-out-n Inv-loop μ-loop
-element-copy-out-n c = omega arith
+element-copy-out-n c = round c .loop-test .taken
 
 element-copy-out-link : tie.Need-element-copy-out-link Inv-loop μ-loop
-element-copy-out-link c = omega arith
+element-copy-out-link c = round (c .before) .loop-test .taken
 
 element-copy-out-preempted : tie.Need-element-copy-out-preempted Inv-loop μ-loop
-element-copy-out-preempted c = omega arith
+element-copy-out-preempted c = round (c .before .before) .loop-test .taken
 
 mul-counts-right : tie.Need-mul-counts-right Inv-loop μ-loop
 mul-counts-right c = omega arith
 
 array-read-counts-right : tie.Need-array-read-counts-right Inv-loop μ-loop
-array-read-counts-right c = omega arith
+array-read-counts-right c = round (c .before .before .before) .loop-test .taken
 
 mul-counts-right-2 : tie.Need-mul-counts-right-2 Inv-loop μ-loop
 mul-counts-right-2 c = omega arith
 
 array-read-counts-right-2 : tie.Need-array-read-counts-right-2 Inv-loop μ-loop
-array-read-counts-right-2 c = omega arith
+array-read-counts-right-2 c = round (c .before .before .before) .loop-test .taken
 
 mul-counts-right-3 : tie.Need-mul-counts-right-3 Inv-loop μ-loop
 mul-counts-right-3 c = omega arith
 
 element-copy-out-counts-right : tie.Need-element-copy-out-counts-right Inv-loop μ-loop
-element-copy-out-counts-right c = omega arith
+element-copy-out-counts-right c = round (c .before .before .before) .loop-test .taken
 
 mul-counts-right-4 : tie.Need-mul-counts-right-4 Inv-loop μ-loop
 mul-counts-right-4 c = omega arith
 
 element-copy-out-counts-right-2 : tie.Need-element-copy-out-counts-right-2 Inv-loop μ-loop
-element-copy-out-counts-right-2 c = omega arith
+element-copy-out-counts-right-2 c = round (c .before .before .before .before) .loop-test .taken
 
 counts-right-requires : tie.Need-counts-right-requires Inv-loop μ-loop
 counts-right-requires c κs = search needs
@@ -167,7 +167,7 @@ mul-sold-right : tie.Need-mul-sold-right Inv-loop μ-loop
 mul-sold-right c = omega arith
 
 element-copy-out-sold-right : tie.Need-element-copy-out-sold-right Inv-loop μ-loop
-element-copy-out-sold-right c = omega arith
+element-copy-out-sold-right c = round (costed c) .loop-test .taken
 
 sold-right-requires : tie.Need-sold-right-requires Inv-loop μ-loop
 sold-right-requires c κs = search needs
@@ -176,13 +176,13 @@ mul-c : tie.Need-mul-c Inv-loop μ-loop
 mul-c c = omega arith
 
 array-read-c : tie.Need-array-read-c Inv-loop μ-loop
-array-read-c c = omega arith
+array-read-c c = round (costed (c .before .before)) .loop-test .taken
 
 mul-c-2 : tie.Need-mul-c-2 Inv-loop μ-loop
 mul-c-2 c = omega arith
 
 array-read-c-2 : tie.Need-array-read-c-2 Inv-loop μ-loop
-array-read-c-2 c = omega arith
+array-read-c-2 c = round (costed (c .before .before)) .loop-test .taken
 
 add-c : tie.Need-add-c Inv-loop μ-loop
 add-c c = omega (arith, begun (round (costed (c .before .before))) .pre (job (round (costed (c .before .before)))) (omega arith))
@@ -191,13 +191,13 @@ mul-f : tie.Need-mul-f Inv-loop μ-loop
 mul-f c = omega arith
 
 element-copy-out-f : tie.Need-element-copy-out-f Inv-loop μ-loop
-element-copy-out-f c = omega arith
+element-copy-out-f c = round (costed (c .before .before)) .loop-test .taken
 
 element-copy-out-h : tie.Need-element-copy-out-h Inv-loop μ-loop
-element-copy-out-h c = omega arith
+element-copy-out-h c = round (costed (c .before .before .before)) .loop-test .taken
 
 element-copy-out-h-2 : tie.Need-element-copy-out-h-2 Inv-loop μ-loop
-element-copy-out-h-2 c = omega arith
+element-copy-out-h-2 c = round (costed (c .before .before .before .before)) .loop-test .taken
 
 child-right-requires : tie.Need-child-right-requires Inv-loop μ-loop
 child-right-requires c κs = present-long (begun (round (costed (c .before .before .before .before .before .before .before .before .before))))
