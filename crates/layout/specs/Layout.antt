@@ -5,6 +5,7 @@ use mathlib.Core.List.{List, [], _∷_}
 use lib.ListN.{length, getD, take, drop}
 use lib.Dec.{eqb, ltb}
 use Rattle.laws.specs.Choice.{if_then_else_}
+use Rattle.laws.specs.Sequence.{padded}
 use Rattle.rules.specs.declared.Outcome.{Outcome}
 use Rattle.rules.specs.declared.Outcome.the-variants
 use Rattle.rules.specs.Calls.{Says, Reply, Call, job, pick, report, ask, board}
@@ -53,14 +54,16 @@ callOf words list text =
     else if isKind 5 words then ask (word words 1)
     else board text
 
--- An answer takes six places: the refusal, 0 for none; how many values it has; the values, with 0 behind them.
+-- An answer is its refusal, 0 for none; how many values it has; and the values, with zeros behind them up to `rowValues`.
+
+abbrev pub rowValues : ℕ
+rowValues = 4
 
 abbrev pub rowLength : ℕ
-rowLength = 6
+rowLength = 2 + rowValues
 
 abbrev pub answerRow : Says → List ℕ
-answerRow a =
-    a .refusal ∷ length (a .values) ∷ getD (a .values) 0 0 ∷ getD (a .values) 1 0 ∷ getD (a .values) 2 0 ∷ getD (a .values) 3 0 ∷ []
+answerRow a = a .refusal ∷ length (a .values) ∷ padded rowValues (a .values)
 
 -- the closing contents of the put-off list, and of the board's buffer, where the call was lent one
 unfoldable pub listAdded : Call → Reply → List ℕ

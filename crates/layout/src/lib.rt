@@ -84,7 +84,7 @@ pub fn end_before(words: &[u64], answers: usize, lists: usize, texts: usize) -> 
     if ((n - head) as u64) < tail_of(words) {
         return 2;
     }
-    if answers < 6 {
+    if answers < rows::ROW {
         return 4;
     }
     if (lists as u64) < list_places(words) {

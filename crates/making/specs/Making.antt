@@ -14,7 +14,7 @@ pub record Made (r : Reply) (state : State) (row buffer : List ℕ) : Type 0 whe
   pub said : row ≡ answerRow (r .says)
   pub wrote : buffer ≡ r .buffer
 
--- these numbers begin with a call, and it has its six places and its buffers
+-- these numbers begin with a call, and it has its places and its buffers
 pub record Lent (words row list text : List ℕ) : Type 0 where
   pub known : headOf (word words 0) ≡ 0 → ⊥
   pub whole : sizeOf words ≤ length words

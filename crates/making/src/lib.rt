@@ -11,13 +11,13 @@ ghost use mathlib.Core.Path.{_≡_};
 ghost use mathlib.Core.List.{[]};
 ghost use lib.ListN.{length, take, drop};
 ghost use Rattle.rules.specs.Calls.{jobReply, pickReply, reportReply, askReply, boardReply};
-ghost use Rattle.layout.specs.Layout.{word, callOf};
+ghost use Rattle.layout.specs.Layout.{rowLength, word, callOf};
 ghost use Rattle.making.specs.Making.{Made, Lent, Answered};
 
 // Each of these makes a call of one kind with its numbers, writes its answer, and hands on the state that it left.
 
 fn make_job(s: State, words: &[u64], row: &mut [u64], list: &mut [u16]) -> State
-    requires { ⌜ (length (row .now) ≡ 6) × (5 + word (words .now) 4 ≤ length (words .now)) ⌝ }
+    requires { ⌜ (length (row .now) ≡ rowLength) × (5 + word (words .now) 4 ≤ length (words .now)) ⌝ }
     ensures { λ r. ⌜ Made (jobReply s (word (words .entry .now) 1) (word (words .entry .now) 2) (take (word (words .entry .now) 4) (drop 5 (words .entry .now))) (list .entry .now)) r (row .exit .now) (list .exit .now) ⌝ }
 {
     let end = 5 + (words[4] as usize);
@@ -28,7 +28,7 @@ fn make_job(s: State, words: &[u64], row: &mut [u64], list: &mut [u16]) -> State
 }
 
 fn make_pick(s: State, now: u64, row: &mut [u64]) -> State
-    requires { ⌜ length (row .now) ≡ 6 ⌝ }
+    requires { ⌜ length (row .now) ≡ rowLength ⌝ }
     ensures { λ r. ⌜ Made (pickReply s now) r (row .exit .now) [] ⌝ }
 {
     let picked = picking::pick(s, now);
@@ -44,7 +44,7 @@ fn make_report(
     row: &mut [u64],
     list: &mut [u16],
 ) -> State
-    requires { ⌜ (length (row .now) ≡ 6) × (5 ≤ length (words .now)) ⌝ }
+    requires { ⌜ (length (row .now) ≡ rowLength) × (5 ≤ length (words .now)) ⌝ }
     ensures { λ r. ⌜ Made (reportReply s (word (words .entry .now) 1) (word (words .entry .now) 2) (word (words .entry .now) 3) outcome (list .entry .now)) r (row .exit .now) (list .exit .now) ⌝ }
 {
     let reported = reporting::report(s, words[1], words[2], words[3], outcome, list);
@@ -54,7 +54,7 @@ fn make_report(
 }
 
 fn make_ask(s: State, job: u64, row: &mut [u64])
-    requires { ⌜ length (row .now) ≡ 6 ⌝ }
+    requires { ⌜ length (row .now) ≡ rowLength ⌝ }
     ensures { λ r. ⌜ Made (askReply s job) s (row .exit .now) [] ⌝ }
 {
     let a = asking::ask(s, job);
@@ -62,7 +62,7 @@ fn make_ask(s: State, job: u64, row: &mut [u64])
 }
 
 fn make_board(s: State, row: &mut [u64], text: &mut [u8])
-    requires { ⌜ length (row .now) ≡ 6 ⌝ }
+    requires { ⌜ length (row .now) ≡ rowLength ⌝ }
     ensures { λ r. ⌜ Made (boardReply s (text .entry .now)) s (row .exit .now) (text .exit .now) ⌝ }
 {
     let a = asking::board(s, text);

@@ -180,12 +180,13 @@ module _ {s : State} {words answers lists texts : List ℕ} {state : State} {mad
       → ka ≡ rowLength
       → kl ≡ places
       → kt ≡ room
+      → length row2 ≡ length (take ka (drop row a))
       → length list2 ≡ length (take kl (drop listed l))
       → length text2 ≡ length (take kt (drop told t))
       → Answered state (callOf (take (length words - at) (drop at words)) (take kl (drop listed l)) (take kt (drop told t))) state2 row2 list2 text2
       → Running s words answers lists texts state2 (made + 1) (at + size) (row + rowLength) (listed + places) (told + room)
       (putMid row ka a row2) (putMid listed kl l list2) (putMid told kt t text2)
-  turns {state2} {row2} {list2} {text2} size places room ka kl kt hs hp hr ea el et nl nt made-it =
+  turns {state2} {row2} {list2} {text2} size places room ka kl kt hs hp hr ea el et na nl nt made-it =
       let hs2 : size ≡ sizeOf (drop at words) = hs ∙ ap sizeOf (rest-is run) in
       let hp2 : places ≡ listPlaces (drop at words) = hp ∙ ap listPlaces (rest-is run) in
       let hr2 : room ≡ textPlaces (drop at words) = hr ∙ ap textPlaces (rest-is run) in
@@ -214,7 +215,7 @@ module _ {s : State} {words answers lists texts : List ℕ} {state : State} {mad
         end = run .end ∙ ap (λ r. r .end) (next .2) ∙ ap (λ r. r .end) later;
         reached = x .left ∙ sym (state-more s (run .done) call);
         count = simp length-append (omega (arith, run .count));
-        rows = wrote-more rowAdded s (run .done) call row2 (x .said) (run .rows) ka rowLength ea (sym (ap length (x .said)));
+        rows = wrote-more rowAdded s (run .done) call row2 (x .said) (run .rows) ka rowLength ea (sym (na ∙ part-length row ka a (omega (arith, row-fits, ea)) ∙ ea));
         rowsfit = omega (arith, ahead .row, run .rowsfit);
         listings = wrote-more listAdded s (run .done) call list2 (x .listed) (run .listings) kl places el (sym (nl ∙ part-length listed kl l (omega (arith, list-fits places hp, el)) ∙ el));
         listsfit = omega (arith, ahead .list, hp2, run .listsfit);

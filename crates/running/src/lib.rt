@@ -11,6 +11,9 @@ ghost use mathlib.Core.Path.{_≡_};
 ghost use Prim.Native.Nat.{_≤_, _<_};
 ghost use Rattle.running.specs.Runs.{runGave, endNumber, ranFrom, runReply, callsRead, Demand3OfRun};
 
+// How many places of `answers` an answer takes.
+pub use layout::rows::ROW;
+
 // Why a run ended: the set-up was refused, the list of calls came to its end, it is cut short within a call, a kind of
 // call is unknown, or a slice has no room for the next answer or its buffer.
 pub enum RunEnd {
@@ -81,20 +84,20 @@ fn run_from(
         state = make(
             state,
             rest,
-            &mut answers[row..row + 6],
+            &mut answers[row..row + ROW],
             &mut lists[listed..listed + places],
             &mut texts[told..told + room],
         );
         made += 1;
         at += size;
-        row += 6;
+        row += ROW;
         listed += places;
         told += room;
     }
 }
 
 // Runs a list of calls from a set-up, the six calls one after another, each with the state that the one
-// before left. Each answer goes to the next six places of `answers`; each put-off list is lent as the next part of
+// before left. Each answer goes to the next `ROW` places of `answers`; each put-off list is lent as the next part of
 // `lists`, each board's buffer as the next part of `texts`: docs/RUN.md. A refused set-up runs nothing. The contract
 // has demand 3 in it.
 pub fn run(

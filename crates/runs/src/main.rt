@@ -13,6 +13,7 @@ use lines::answer;
 use lines::setups;
 use lines::text;
 use rules::Setup;
+use scheduler::ROW;
 use scheduler::RunEnd;
 
 // The set-up, and how many numbers of calls there are.
@@ -142,21 +143,21 @@ fn run(u: Setup, list: &[u64], rooms: &[u64], out: &mut [u8]) {
     show_end(r.calls, end, out);
 }
 
-// Six places a line, as far as they were written.
+// An answer a line, as far as they were written.
 fn show_answers(answers: &[u64], out: &mut [u8]) {
     let mut at: usize = 0;
-    while at + 6 <= answers.len() {
+    while at + ROW <= answers.len() {
         if answers[at] == 999 {
             return;
         }
-        show_row(at, &answers[at..at + 6], out);
-        at += 6;
+        show_row(at, &answers[at..at + ROW], out);
+        at += ROW;
     }
 }
 
 fn show_row(at: usize, row: &[u64], out: &mut [u8]) {
     let mut p = answer::put(out, 0, b"answer");
-    p = answer::put_number(out, p, (at as u64) / 6);
+    p = answer::put_number(out, p, (at as u64) / (ROW as u64));
     p = answer::put_byte(out, p, 58);
     let mut i: usize = 0;
     while i < row.len() {

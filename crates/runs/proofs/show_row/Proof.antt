@@ -23,6 +23,9 @@ slice-aggregate-put c = search needs
 put-requires : tie.Need-put-requires Inv-loop μ-loop
 put-requires c κs = search needs
 
+div-put-number : tie.Need-div-put-number Inv-loop μ-loop
+div-put-number c = search needs
+
 put-number-requires : tie.Need-put-number-requires Inv-loop μ-loop
 put-number-requires c κs = search needs
 
@@ -70,6 +73,7 @@ show-row-spec =
     μ-loop
     slice-aggregate-put
     put-requires
+    div-put-number
     put-number-requires
     put-byte-requires
     loop-holds

@@ -1,14 +1,9 @@
-use borrow.Author.Needs.{needs}
 use mathlib.Core.Path.{sym, _∙_, ap}
+use borrow.Author.Needs.{needs}
 use Rattle.rules.specs.Answers.{jobSays}
 use Rattle.layout.specs.Layout.{answerRow}
 use Rattle.layout.proofs.rows.put_job.Statement.{statement}
 use Rattle.layout.proofs.rows.put_job.Tie as tie
-use Rattle.layout.proofs.rows.put_job.Reads as reads
-use Rattle.layout.proofs.rows.put_job.Lts as lts
-use Rattle.layout.proofs.rows.put_refusal.Reads as put-refusal-reads
-use Rattle.layout.proofs.rows.put_row.Reads as put-row-reads
-use Rattle.layout.proofs.rows.put_value.Reads as put-value-reads
 
 enum-known-a : tie.Need-enum-known-a
 enum-known-a c = search needs
@@ -19,11 +14,14 @@ put-refusal-requires c κs = search needs
 enum-known-a-2 : tie.Need-enum-known-a-2
 enum-known-a-2 c = search needs
 
-cast-put-row : tie.Need-cast-put-row
-cast-put-row c = search needs
+cast-t14 : tie.Need-cast-t14
+cast-t14 c = search needs
 
-cast-put-row-2 : tie.Need-cast-put-row-2
-cast-put-row-2 c = search needs
+cast-t15 : tie.Need-cast-t15
+cast-t15 c = search needs
+
+slice-aggregate-put-row : tie.Need-slice-aggregate-put-row
+slice-aggregate-put-row c = search needs
 
 put-row-requires : tie.Need-put-row-requires
 put-row-requires c κs = search needs
@@ -47,7 +45,7 @@ same-length-2 : tie.Need-same-length-2
 same-length-2 c = search needs
 
 returns-2 : tie.Need-returns-2
-returns-2 c = c .before .before .put-row .ensures ∙ sym (ap (λ x. answerRow (jobSays x)) (c .before .before .before .before .before .a2 .given .1))
+returns-2 c = c .before .before .put-row .ensures ∙ sym (ap (λ x. answerRow (jobSays x)) (c .before .before .before .before .before .before .a2 .given .1))
 
 same-length-3 : tie.Need-same-length-3
 same-length-3 c = search needs
@@ -62,8 +60,9 @@ put-job-spec =
     enum-known-a
     put-refusal-requires
     enum-known-a-2
-    cast-put-row
-    cast-put-row-2
+    cast-t14
+    cast-t15
+    slice-aggregate-put-row
     put-row-requires
     enum-known-a-3
     cast-put-value

@@ -1,14 +1,9 @@
-use borrow.Author.Needs.{needs}
 use mathlib.Core.Path.{sym, _∙_, ap}
+use borrow.Author.Needs.{needs}
 use Rattle.rules.specs.Answers.{pickSays}
 use Rattle.layout.specs.Layout.{answerRow}
 use Rattle.layout.proofs.rows.put_pick.Statement.{statement}
 use Rattle.layout.proofs.rows.put_pick.Tie as tie
-use Rattle.layout.proofs.rows.put_pick.Reads as reads
-use Rattle.layout.proofs.rows.put_pick.Lts as lts
-use Rattle.layout.proofs.rows.put_refusal.Reads as put-refusal-reads
-use Rattle.layout.proofs.rows.put_row.Reads as put-row-reads
-use Rattle.layout.proofs.rows.put_value.Reads as put-value-reads
 
 enum-known-a : tie.Need-enum-known-a
 enum-known-a c = search needs
@@ -19,17 +14,20 @@ put-refusal-requires c κs = search needs
 enum-known-a-2 : tie.Need-enum-known-a-2
 enum-known-a-2 c = search needs
 
-cast-put-row : tie.Need-cast-put-row
-cast-put-row c = search needs
+cast-t15 : tie.Need-cast-t15
+cast-t15 c = search needs
 
-cast-put-row-2 : tie.Need-cast-put-row-2
-cast-put-row-2 c = search needs
+cast-t16 : tie.Need-cast-t16
+cast-t16 c = search needs
 
-cast-put-row-3 : tie.Need-cast-put-row-3
-cast-put-row-3 c = search needs
+cast-t17 : tie.Need-cast-t17
+cast-t17 c = search needs
 
-cast-put-row-4 : tie.Need-cast-put-row-4
-cast-put-row-4 c = search needs
+cast-t18 : tie.Need-cast-t18
+cast-t18 c = search needs
+
+slice-aggregate-put-row : tie.Need-slice-aggregate-put-row
+slice-aggregate-put-row c = search needs
 
 put-row-requires : tie.Need-put-row-requires
 put-row-requires c κs = search needs
@@ -50,7 +48,7 @@ same-length-2 : tie.Need-same-length-2
 same-length-2 c = search needs
 
 returns-2 : tie.Need-returns-2
-returns-2 c = c .before .before .put-row .ensures ∙ sym (ap (λ x. answerRow (pickSays x)) (c .before .before .before .before .before .a2 .given .1))
+returns-2 c = c .before .before .put-row .ensures ∙ sym (ap (λ x. answerRow (pickSays x)) (c .before .before .before .before .before .before .a2 .given .1))
 
 same-length-3 : tie.Need-same-length-3
 same-length-3 c = search needs
@@ -65,10 +63,11 @@ put-pick-spec =
     enum-known-a
     put-refusal-requires
     enum-known-a-2
-    cast-put-row
-    cast-put-row-2
-    cast-put-row-3
-    cast-put-row-4
+    cast-t15
+    cast-t16
+    cast-t17
+    cast-t18
+    slice-aggregate-put-row
     put-row-requires
     enum-told
     put-value-requires
