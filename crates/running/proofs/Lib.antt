@@ -1,3 +1,3 @@
 pub mod ReadingLaws
-pub mod RunLaws
-pub mod RunAll
+pub mod TurnLaws
+pub mod WholeLaws

@@ -13,7 +13,7 @@ use Rattle.rules.specs.Run.{stateFrom}
 use Rattle.laws.specs.Wrote.{Wrote}
 use Rattle.laws.proofs.Writing.{wrote-length, back-is, beside}
 use Rattle.layout.specs.Layout.{sizeOf, listPlaces, textPlaces, callOf, rowLength, endBefore, Reading, thenRead, reading}
-use Rattle.running.specs.Runs.{gathered}
+use Rattle.running.specs.WholeReply.{gathered}
 use Rattle.layout.proofs.LayoutLaws.{end-none}
 
 -- One call more at the end.

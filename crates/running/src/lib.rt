@@ -9,7 +9,7 @@ use rules::SetupAnswer;
 use rules::State;
 ghost use mathlib.Core.Path.{_≡_};
 ghost use Prim.Native.Nat.{_≤_, _<_};
-ghost use Rattle.running.specs.Runs.{runGave, endNumber, ranFrom, runReply, callsRead, Demand3OfRun};
+ghost use Rattle.running.specs.WholeReply.{runGave, endNumber, ranFrom, runReply, callsRead, Demand3OfRun};
 
 // How many places of `answers` an answer takes.
 pub use layout::rows::ROW;

@@ -3,10 +3,15 @@ use Rattle.making.proofs.MadeLaws.{made-job}
 use Rattle.layout.specs.Layout.{word}
 use Rattle.making.proofs.make_job.Statement.{statement}
 use Rattle.making.proofs.make_job.Tie as tie
-use Rattle.making.proofs.make_job.Reads as reads
-use Rattle.making.proofs.make_job.Lts as lts
-use Rattle.layout.proofs.rows.put_job.Reads as put-job-reads
-use Rattle.taking.proofs.take_job.Reads as take-job-reads
+
+abbrev answered : tie.After-result → tie.After-put-job
+answered c = c .before .before .before
+
+abbrev taken : tie.After-put-job → tie.After-take-job
+taken c = c .before .before .before .before
+
+abbrev start : tie.After-take-job → tie.Start
+start c = c .before .before .before .before .before .before .before .before .before
 
 shared-slice-read-end : tie.Need-shared-slice-read-end
 shared-slice-read-end c = search needs
@@ -42,7 +47,11 @@ same-length-2 : tie.Need-same-length-2
 same-length-2 c = search needs
 
 returns : tie.Need-returns
-returns c = made-job _ _ _ (c .before .before .before .before .before .before .before .before .before .before .before .before .before .before .before .before .args .words .now) (c .before .before .before .before .before .before .before .before .before .before .before .before .before .before .before .before .args .list .now) (word (c .before .before .before .before .before .before .before .before .before .before .before .before .before .before .before .before .args .words .now) 4) _ _ (c .before .before .before .before .before .before .before .take-job .ensures) (c .before .before .before .put-job .ensures)
+returns c =
+    let a = answered c in
+    let t = taken a in
+    let words = start t .args .words .now in
+    made-job _ _ _ words (start t .args .list .now) (word words 4) _ _ (t .take-job .ensures) (a .put-job .ensures)
 
 pub make-job-spec : {M : Type 1} → statement M
 make-job-spec =

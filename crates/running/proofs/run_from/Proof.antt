@@ -4,7 +4,8 @@ use native.Mathlib.Omega.{arith}
 use lib.ListN.{length}
 use borrow.Author.Needs.{needs}
 use Rattle.layout.specs.Layout.{rowLength}
-use Rattle.running.proofs.RunLaws.{Running, starts, answers-length, lists-length, texts-length, asked, ends, used, end-range, ran-as, rest-fits, rest-some, head-fits, row-fits, list-fits, text-fits, lends, turns, advances, cancel, GoesOn}
+use Rattle.running.proofs.TurnLaws.{Running, starts, answers-length, lists-length, texts-length, GoesOn, asked, ends, used, end-range, ran-as}
+use Rattle.running.proofs.TurnLaws.{rest-fits, rest-some, head-fits, row-fits, list-fits, text-fits, lends, turns, advances, cancel}
 use Rattle.running.proofs.run_from.Statement.{statement}
 use Rattle.running.proofs.run_from.Tie as tie
 

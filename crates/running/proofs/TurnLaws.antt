@@ -13,7 +13,7 @@ use Rattle.rules.specs.Run.{stateFrom}
 use Rattle.laws.specs.Wrote.{Wrote}
 use Rattle.laws.proofs.Writing.{wrote-none}
 use Rattle.layout.specs.Layout.{word, headOf, sizeOf, listPlaces, textPlaces, callOf, rowLength, endBefore, reading}
-use Rattle.running.specs.Runs.{gathered, rowAdded, Ran, callsRead, ranFrom}
+use Rattle.running.specs.WholeReply.{gathered, rowAdded, Ran, callsRead, ranFrom}
 use Rattle.layout.specs.Layout.{listAdded, textAdded}
 use Rattle.making.specs.Making.{Lent, Answered}
 use Rattle.layout.proofs.LayoutLaws.{nonzero, size-is, end-most, Ahead, ahead-of}

@@ -13,7 +13,7 @@ use Rattle.rules.specs.Setup.{setupInRange, freshState}
 use Rattle.rules.specs.Calls.{setupReply}
 use Rattle.rules.proofs.Demand3.{demand3, companions}
 use Rattle.rules.specs.Gave.{setupGave, accepts}
-use Rattle.running.specs.Runs.{Ran, callsRead, ranFrom, runReply, Demand3OfRun}
+use Rattle.running.specs.WholeReply.{Ran, callsRead, ranFrom, runReply, Demand3OfRun}
 use Rattle.rules.proofs.Replies.{start-is}
 
 -- whether a set-up is in range, by the answer's case
