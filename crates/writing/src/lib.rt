@@ -11,12 +11,7 @@ pub fn put(word: &[u8], buf: &mut [u8]) -> usize
     requires { ⌜ length (now word) ≤ length (now buf) ⌝ }
     ensures { λ r. ⌜ Wrote (now (word .entry)) (now (buf .entry)) (now (buf .exit)) r ⌝ }
 {
-    let mut i: usize = 0;
-    while i < word.len() {
-        buf[i] = word[i];
-        i += 1;
-    }
-    i
+    bytes::copy(word, buf)
 }
 
 // Puts a number's decimals there.

@@ -23,6 +23,20 @@ abbrev put-decimal-below : ℕ → In 1 put-decimal-kinds.ps
 put-decimal-below t =
     and 1 put-decimal-kinds.ps (falls 1 put-decimal-kinds.ps _<_ μ-put-decimal t) put-decimal.Pre
 
+-- where the tenth is put: the branch that led there, and the start
+
+abbrev more :
+    (t : ℕ)
+    → put-decimal-lts.After-slice-known2 (put-decimal-below t, put-decimal.Post) (put-decimal-at t) put-decimal.Post
+    → put-decimal-lts.Else1 (put-decimal-below t, put-decimal.Post) (put-decimal-at t) put-decimal.Post
+more t c = c .before .before .before .before
+
+abbrev begun :
+    (t : ℕ)
+    → put-decimal-lts.After-slice-known2 (put-decimal-below t, put-decimal.Post) (put-decimal-at t) put-decimal.Post
+    → put-decimal-lts.Start (put-decimal-below t, put-decimal.Post) (put-decimal-at t) put-decimal.Post
+begun t c = more t c .before .before
+
 put-decimal-cast-buf : (t : ℕ) → put-decimal-lts.Need-cast-buf (
   put-decimal-below t,
   put-decimal.Post,
@@ -75,25 +89,25 @@ put-decimal-slice-write-buf-2 : (t : ℕ) → put-decimal-lts.Need-slice-write-b
   put-decimal-below t,
   put-decimal.Post,
 ) (put-decimal-at t) put-decimal.Post
-put-decimal-slice-write-buf-2 t c = put-room _ (c .before .before .before .before .if1 .left) (c .before .before .before .before .before .before .fits .x .fits) (c .before .before .before .before .before .before .pre .1) (c .before .before .put-decimal .ensures)
+put-decimal-slice-write-buf-2 t c = put-room _ (more t c .if1 .left) (begun t c .fits .x .fits) (begun t c .pre .1) (c .before .before .put-decimal .ensures)
 
 put-decimal-add-result : (t : ℕ) → put-decimal-lts.Need-add-result (
   put-decimal-below t,
   put-decimal.Post,
 ) (put-decimal-at t) put-decimal.Post
-put-decimal-add-result t c = omega (arith, put-short _ (c .before .before .before .before .if1 .left) (c .before .before .before .before .before .before .fits .x .fits) (c .before .before .before .before .before .before .pre .1) (c .before .before .put-decimal .ensures))
+put-decimal-add-result t c = omega (arith, put-short _ (more t c .if1 .left) (begun t c .fits .x .fits) (begun t c .pre .1) (c .before .before .put-decimal .ensures))
 
 put-decimal-same-length-2 : (t : ℕ) → put-decimal-lts.Need-same-length-2 (
   put-decimal-below t,
   put-decimal.Post,
 ) (put-decimal-at t) put-decimal.Post
-put-decimal-same-length-2 t c = simp length-set (put-same _ (c .before .before .before .before .if1 .left) (c .before .before .before .before .before .before .fits .x .fits) (c .before .before .before .before .before .before .pre .1) (c .before .before .put-decimal .ensures))
+put-decimal-same-length-2 t c = simp length-set (put-same _ (more t c .if1 .left) (begun t c .fits .x .fits) (begun t c .pre .1) (c .before .before .put-decimal .ensures))
 
 put-decimal-returns-2 : (t : ℕ) → put-decimal-lts.Need-returns-2 (
   put-decimal-below t,
   put-decimal.Post,
 ) (put-decimal-at t) put-decimal.Post
-put-decimal-returns-2 t c = put-last _ (c .before .before .before .before .if1 .left) (c .before .before .before .before .before .before .fits .x .fits) (c .before .before .before .before .before .before .pre .1) (c .before .before .put-decimal .ensures)
+put-decimal-returns-2 t c = put-last _ (more t c .if1 .left) (begun t c .fits .x .fits) (begun t c .pre .1) (c .before .before .put-decimal .ensures)
 
 pub +put-decimal-spec : {M : Type 1} → statement M
 +put-decimal-spec = close μ-put-decimal λ t. put-decimal-lts.spec (

@@ -1,52 +1,28 @@
--- The bytes are copied from the front on. Assumes nothing.
-use Prim.Native.Nat.{_-_}
-use native.Mathlib.Omega.{arith}
-use lib.ListN.{length}
-use Rattle.laws.proofs.Writing.{Copied, copy-none, copy-length, copy-one, copy-all}
+-- What was copied is the whole word. Assumes nothing.
+use mathlib.Core.Path.{_∙_, ap}
+use mathlib.Core.List.{_++_}
+use native.Mathlib.Nat.{le-refl}
+use lib.ListN.{length, drop}
+use lib.Seq.{take-all}
+use borrow.Author.Needs.{needs}
 use Rattle.writing.proofs.put.Statement.{statement}
 use Rattle.writing.proofs.put.Tie as tie
 
-abbrev Inv-loop : tie.InvT-loop
-Inv-loop word buf₀ i₀ buf i = Copied word buf₀ buf i
+copy-requires : tie.Need-copy-requires
+copy-requires c κs = search needs
 
-abbrev μ-loop : tie.MeasureT-loop
-μ-loop word buf₀ i₀ buf i = length word - i
+same-length : tie.Need-same-length
+same-length c = search needs
 
-loop-holds : tie.Need-loop-holds Inv-loop μ-loop
-loop-holds c = copy-none _ _ (c .pre)
+abbrev start : tie.After-slice-known2 → tie.Start
+start c = c .before .before .before .before .before .before
 
-shared-slice-read-buf : tie.Need-shared-slice-read-buf Inv-loop μ-loop
-shared-slice-read-buf c = c .before .loop-test .taken
-
-slice-write-buf : tie.Need-slice-write-buf Inv-loop μ-loop
-slice-write-buf c = omega (arith, copy-length (c .before .before .loop .inv), c .before .before .loop .inv .fits)
-
-add-i : tie.Need-add-i Inv-loop μ-loop
-add-i c = omega arith
-
-loop-less : tie.Need-loop-less Inv-loop μ-loop
-loop-less c = omega arith
-
-loop-again : tie.Need-loop-again Inv-loop μ-loop
-loop-again c = copy-one (c .before .before .loop .inv) (c .before .loop-test .taken)
-
-same-length : tie.Need-same-length Inv-loop μ-loop
-same-length c = copy-length (c .before .loop .inv)
-
-returns : tie.Need-returns Inv-loop μ-loop
-returns c = copy-all (c .before .loop .inv) (c .loop-test .left)
+returns : tie.Need-returns
+returns c =
+    let word = start c .args .word .now in
+    let buf = start c .args .buf .now in
+    let copied = c .before .before .copy .ensures in
+    record { count = copied .0; bytes = copied .1 ∙ ap (λ l. l ++ drop (length word) buf) (take-all (length word) word (le-refl _)) }
 
 pub put-spec : {M : Type 1} → statement M
-put-spec =
-    tie.close
-    (tie.spec
-    Inv-loop
-    μ-loop
-    loop-holds
-    shared-slice-read-buf
-    slice-write-buf
-    add-i
-    loop-less
-    loop-again
-    same-length
-    returns)
+put-spec = tie.close (tie.spec copy-requires same-length returns)
