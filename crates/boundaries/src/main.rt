@@ -20,11 +20,13 @@
 // Empty lines and lines that begin with '#' are written as they are.
 ghost use Prim.Native.Nat.{_*_, _≤_};
 ghost use lib.ListN.{length};
+use bytes::scan::find;
 use calling::Reply;
 use cases::bits;
 use cases::change;
 use cases::lent;
 use cases::reading;
+use check::same;
 use libc::STDIN_FILENO;
 use libc::STDOUT_FILENO;
 use lines::answer;
@@ -59,7 +61,7 @@ fn run(cases: &mut [u8], words: &mut [u64], list: &mut [u16], written: &mut [u8]
     requires { ⌜ length (now cases) ≤ 2 * length (now words) ⌝ }
 {
     let n = io::read_full(STDIN_FILENO, cases);
-    let zeros = calling::no_state();
+    let zeros = startup::zero();
     let mut desk = Desk {
         state: zeros,
         kept: zeros,
@@ -67,7 +69,7 @@ fn run(cases: &mut [u8], words: &mut [u64], list: &mut [u16], written: &mut [u8]
     let mut at: usize = 0;
     while at < n {
         let start = at;
-        let end = text::find(cases, start, n, 10);
+        let end = find(cases, start, n, 10);
         at = end + 1;
         desk = step(&cases[start..end], words, list, written, out, desk);
     }
@@ -87,11 +89,11 @@ fn step(
     io::write_all(STDOUT_FILENO, line);
     let s = desk.state;
     let kept = desk.kept;
-    if text::same(line, b"keep") {
+    if same(line, b"keep") {
         write_answer(out, 0);
         return Desk { state: s, kept: s };
     }
-    if text::same(line, b"back") {
+    if same(line, b"back") {
         write_answer(out, 0);
         return Desk {
             state: kept,
@@ -150,7 +152,7 @@ fn once(
     requires { ⌜ length (now line) ≤ 2 * length (now words) ⌝ }
 {
     let n = line.len();
-    let end = text::find(line, 0, n, 32);
+    let end = find(line, 0, n, 32);
     let kind = reading::kind_of(&line[..end]);
     if 5 < kind {
         return changing(kind, &line[end..], words, out, s);
@@ -217,7 +219,7 @@ fn changing(kind: u8, rest: &[u8], words: &mut [u64], out: &mut [u8], s: State) 
 {
     let n = rest.len();
     let from = text::skip_blanks(rest, 0);
-    let to = text::find(rest, from, n, 32);
+    let to = find(rest, from, n, 32);
     let got = text::read_numbers(rest, to, words);
     let k = got.count;
     if !got.whole {

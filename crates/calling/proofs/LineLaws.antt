@@ -14,20 +14,13 @@ use Rattle.rules.specs.declared.Setup.{Setup}
 use Rattle.rules.specs.declared.Outcome.{Outcome}
 use Rattle.rules.specs.declared.Outcome.the-variants
 use Rattle.rules.specs.State.{at}
-use Rattle.rules.specs.Setup.{zeroSetup, zeroState, setupInRange, within}
-use Rattle.rules.specs.Refusals.{setupRefusal}
-use Rattle.rules.specs.Calls.{job, pick, report, ask, board, unlessRefused, setupReply}
+use Rattle.rules.specs.Calls.{job, pick, report, ask, board}
 use Rattle.lines.specs.Names.{setupName, jobName, pickName, reportName, askName, boardName}
 use Rattle.lines.specs.Words.{sameBytes}
 use Rattle.lines.specs.Setups.{placeOfD, announced, countPlace, setupFrom}
 use Rattle.lines.proofs.PutLaws.{take-most}
 use Rattle.calling.specs.Meaning.{malformed, setup, call, setupLine, jobLine, pickLine, outcomeOf, reportLine, askLine, boardLine}
 use Rattle.calling.specs.Meaning.{Line, kindOf, callLine}
-
--- a refused set-up gives the state of all zeros
-pub zero-start : setupReply zeroSetup .state ≡ zeroState
-unfolding setupReply setupRefusal unlessRefused setupInRange within if_then_else_
-zero-start = refl
 
 module _ (words : List ℕ) where
   -- set-up

@@ -1,4 +1,6 @@
 // One line, read as a call and made. A line that is no call leaves the state as it is.
+use bytes::scan::find;
+use check::same;
 use lines::answer;
 use lines::setups;
 use lines::text;
@@ -8,7 +10,6 @@ use rules::State;
 ghost use Prim.Native.Nat.{_*_, _≤_};
 ghost use mathlib.Core.Path.{_≡_};
 ghost use lib.ListN.{length};
-ghost use Rattle.rules.specs.Setup.{zeroState};
 ghost use Rattle.rules.specs.Calls.{setupReply};
 ghost use Rattle.lines.specs.Texts.{Put, malformedText};
 ghost use Rattle.calling.specs.Meaning.{setupLine, jobLine, pickLine, reportLine, outcomeOf, askLine, boardLine, kindOf, callLine, meaningOf, stateOn};
@@ -18,14 +19,6 @@ ghost use Rattle.calling.specs.Replies.{startText, textOn};
 pub struct Reply {
     pub state: State,
     pub length: usize,
-}
-
-// The state of all zeros: a refused set-up gives it.
-pub fn no_state() -> State
-    ensures { λ r. ⌜ r ≡ zeroState ⌝ }
-{
-    let u = setups::no_setup();
-    scheduler::set_up(u).state
 }
 
 // Makes the call of a line. Its numbers go to `words`, its answer to `out`; `list` and `written` are what it may lend.
@@ -51,7 +44,7 @@ pub fn answer_line(
     if line[0] == 35 {
         return left(s, 0);
     }
-    let end = text::find(line, at, n, 32);
+    let end = find(line, at, n, 32);
     let got = text::read_numbers(line, end, words);
     let k = got.count;
     if !got.whole {
@@ -116,22 +109,22 @@ pub fn call(
 fn kind_of(name: &[u8]) -> u8
     ensures { λ r. ⌜ r ≡ kindOf (now (name .entry)) ⌝ }
 {
-    if text::same(name, b"setup") {
+    if same(name, b"setup") {
         return 1;
     }
-    if text::same(name, b"job") {
+    if same(name, b"job") {
         return 2;
     }
-    if text::same(name, b"pick") {
+    if same(name, b"pick") {
         return 3;
     }
-    if text::same(name, b"report") {
+    if same(name, b"report") {
         return 4;
     }
-    if text::same(name, b"ask") {
+    if same(name, b"ask") {
         return 5;
     }
-    if text::same(name, b"board") {
+    if same(name, b"board") {
         return 6;
     }
     0

@@ -13,6 +13,8 @@
 //     kind E X, job E X, destination E X, stamp E X   of an entry; stamp is its ticket
 //
 // A place past the end stands for the last one.
+use bytes::scan::find;
+use check::same;
 use lines::text;
 use lines::text::word;
 use rules::Busy;
@@ -57,9 +59,9 @@ fn is_among(word: &[u8], names: &[u8]) -> bool {
     let mut at: usize = 0;
     while at < names.len() {
         let start = at;
-        let end = text::find(names, start, names.len(), 32);
+        let end = find(names, start, names.len(), 32);
         at = end + 1;
-        if text::same(word, &names[start..end]) {
+        if same(word, &names[start..end]) {
             return true;
         }
     }
@@ -94,11 +96,11 @@ pub fn changed(field: &[u8], w: &[u64], s: State) -> State {
 // The new number where the field has that name, else the old one.
 
 fn new64(field: &[u8], name: &[u8], old: u64, new: u64) -> u64 {
-    if text::same(field, name) { new } else { old }
+    if same(field, name) { new } else { old }
 }
 
 fn new32(field: &[u8], name: &[u8], old: u32, new: u64) -> u32 {
-    if text::same(field, name) {
+    if same(field, name) {
         (new % 4294967296) as u32
     } else {
         old
@@ -106,7 +108,7 @@ fn new32(field: &[u8], name: &[u8], old: u32, new: u64) -> u32 {
 }
 
 fn new16(field: &[u8], name: &[u8], old: u16, new: u64) -> u16 {
-    if text::same(field, name) {
+    if same(field, name) {
         (new % 65536) as u16
     } else {
         old
@@ -114,7 +116,7 @@ fn new16(field: &[u8], name: &[u8], old: u16, new: u64) -> u16 {
 }
 
 fn new8(field: &[u8], name: &[u8], old: u8, new: u64) -> u8 {
-    if text::same(field, name) {
+    if same(field, name) {
         (new % 256) as u8
     } else {
         old
@@ -122,11 +124,7 @@ fn new8(field: &[u8], name: &[u8], old: u8, new: u64) -> u8 {
 }
 
 fn new_bool(field: &[u8], name: &[u8], old: bool, new: u64) -> bool {
-    if text::same(field, name) {
-        new != 0
-    } else {
-        old
-    }
+    if same(field, name) { new != 0 } else { old }
 }
 
 fn setup_changed(field: &[u8], w: &[u64], u: Setup) -> Setup {
@@ -182,7 +180,7 @@ fn destinations_changed(field: &[u8], w: &[u64], ds: [Destination; 32]) -> [Dest
 }
 
 fn destination_changed(field: &[u8], w: &[u64], d: Destination) -> Destination {
-    if text::same(field, b"live") {
+    if same(field, b"live") {
         let u = Sums {
             window: word(w, 1),
             success: word(w, 2),
@@ -193,7 +191,7 @@ fn destination_changed(field: &[u8], w: &[u64], d: Destination) -> Destination {
             health: Health::Live(u),
         };
     }
-    if text::same(field, b"dead") {
+    if same(field, b"dead") {
         return Destination {
             health: Health::Dead(word(w, 1)),
         };

@@ -1,4 +1,5 @@
 // The buffers that are lent to a call: filled before it, shown after it.
+use check::same;
 use lines::answer;
 use lines::text;
 ghost use Prim.Native.Nat.{_≤_};
@@ -73,7 +74,7 @@ pub fn spread(name: &[u8], words: &mut [u64], k: usize) -> usize
     if k < 5 {
         return k;
     }
-    if !text::same(name, b"job") {
+    if !same(name, b"job") {
         return k;
     }
     let given = k - 4;

@@ -1,4 +1,6 @@
 // How a line of cases is read: how often, which name, whether its words fit.
+use bytes::scan::find;
+use check::same;
 use lines::text;
 use lines::text::Number;
 ghost use mathlib.Core.Path.{_≡_};
@@ -21,7 +23,7 @@ pub fn read_repeat(line: &[u8]) -> Repeat
     if line[0] == 35 {
         return from_front(0);
     }
-    let end = text::find(line, 0, n, 32);
+    let end = find(line, 0, n, 32);
     let Number::Is(count) = text::read_number(&line[..end]) else {
         return from_front(1);
     };
@@ -43,28 +45,28 @@ fn from_front(count: u64) -> Repeat
 
 // A number for each name that is no call's: what looks at something, then what changes something. 0 for any other.
 pub fn kind_of(name: &[u8]) -> u8 {
-    if text::same(name, b"list") {
+    if same(name, b"list") {
         return 1;
     }
-    if text::same(name, b"text") {
+    if same(name, b"text") {
         return 2;
     }
-    if text::same(name, b"bytes") {
+    if same(name, b"bytes") {
         return 3;
     }
-    if text::same(name, b"sequence") {
+    if same(name, b"sequence") {
         return 4;
     }
-    if text::same(name, b"bits") {
+    if same(name, b"bits") {
         return 5;
     }
-    if text::same(name, b"set") {
+    if same(name, b"set") {
         return 6;
     }
-    if text::same(name, b"broken") {
+    if same(name, b"broken") {
         return 7;
     }
-    if text::same(name, b"range") {
+    if same(name, b"range") {
         return 8;
     }
     0

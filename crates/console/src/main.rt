@@ -3,6 +3,7 @@ ghost use mathlib.Core.Path.{_≡_};
 ghost use Prim.Native.Nat.{_+_, _*_, _≤_, _<_};
 ghost use lib.ListN.{length};
 ghost use Rattle.console.specs.Lines.{afterLine};
+use bytes::scan::find;
 use libc::STDIN_FILENO;
 use lines::answer;
 use lines::text;
@@ -22,7 +23,7 @@ fn main() {
 fn run(line: &mut [u8], words: &mut [u64])
     requires { ⌜ (0 < length (now line)) × (length (now line) ≤ 2 * length (now words) + 1) ⌝ }
 {
-    let mut state = calling::no_state();
+    let mut state = startup::zero();
     let mut h = none(0);
     // no place before this one holds a line end
     let mut seen: usize = 0;
@@ -31,7 +32,7 @@ fn run(line: &mut [u8], words: &mut [u64])
         left -= 1;
         let start = h.start;
         let have = h.have;
-        let end = text::find(line, seen, have, 10);
+        let end = find(line, seen, have, 10);
         if end < have {
             seen = end + 1;
             state = answered(&line[start..end], words, h.mode, state);

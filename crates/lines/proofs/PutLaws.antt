@@ -2,12 +2,13 @@
 use Prim.Native.Nat.{ℕ, zero, suc, _+_, _-_, _/_, _%_, _^_, _≤_, _<_, min}
 use mathlib.Core.Path.{_≡_, refl, sym, _∙_, ap, subst}
 use mathlib.Core.List.{List, [], _∷_, _++_, append-nil, append-assoc, map, map-append}
-use native.Mathlib.Nat.{pow-zero, pow-succ'}
+use native.Mathlib.Nat.{le-refl, pow-zero, pow-succ'}
 use native.Mathlib.Omega.{arith}
 use native.Mathlib.Numerals.{add-one}
 use native.Mathlib.Decide.{ℕ-discrete, decLt}
-use lib.ListN.{length, getD, set, take, length-append}
-use lib.Seq.{sets, length-sets, set-out, take-suc, take-all}
+use lib.ListN.{length, getD, set, take, drop, length-append, length-drop, take-append-drop, drop-of-length-le}
+use lib.Seq.{sets, length-sets, sets-eq, set-out, take-suc, take-all, drop-drop, length-take-le}
+use borrow.Rule.Slice.PartMut.{putMid, midOf, mid-len}
 use borrow.Author.Tests.{lt-ltb, eq-eqb, ne-eqb}
 use Rattle.laws.specs.Choice.{if_then_else_}
 use Rattle.io.specs.Digits.{digits, glyph, Fewest}
@@ -55,14 +56,48 @@ put-case f {e} {x} {at} {r} h v = subst (λ t. Put t e at x r) (sym (ap f h)) v
 pub put-as : {a b e x : List ℕ} {at r : ℕ} → a ≡ b → Put a e at x r → Put b e at x r
 put-as {e} {x} {at} {r} h v = subst (λ t. Put t e at x r) h v
 
--- Byte after byte of a word.
+-- A word that is copied to a place, as far as there is room.
 
-module _ (word e : List ℕ) (at i : ℕ) {x : List ℕ} {p : ℕ} (v : Put (take i word) e at x p) where
-  pub put-next : {y : List ℕ} {q : ℕ} → i < length word → Put (getD word i 0 ∷ []) x p y q → Put (take (i + 1) word) e at y q
-  put-next h w = put-as (sym (ap (λ k. take k word) (add-one i) ∙ take-suc word i 0 h)) (put-more v w)
+pub put-past : (word e : List ℕ) (at : ℕ) → length e ≤ at → Put word e at e at
+put-past word e at h = record { bytes = sym (sets-out word e at h); next = omega arith }
 
-  pub put-whole : length word ≤ i → Put word e at x p
-  put-whole h = put-as (take-all i word h) v
+module _ (word e : List ℕ) (at n : ℕ) (h : at ≤ length e) (room : n ≡ min (length word) (length e - at)) where
+  pub part-length : length (take n word) ≡ n
+  part-length = length-take-le n word (omega (arith, room))
+
+  pub part-fits : length (take n word) ≤ length (midOf at (length e - at) e)
+  part-fits = omega (arith, part-length, room, mid-len at (length e) e (le-refl _))
+
+  -- what is left out would stand past the end
+  sets-part : sets e at (take n word) ≡ sets e at word
+  sets-part =
+      let rest : sets (sets e at (take n word)) (at + length (take n word)) (drop n word) ≡ sets e at (take n word) =
+      elim (decLt n (length word)) [
+        | yes l ↦ sets-out (drop n word) (sets e at (take n word)) _ (omega (arith, length-sets e at (take n word), part-length, room))
+        | no l ↦ ap (sets (sets e at (take n word)) (at + length (take n word))) (drop-of-length-le word {i = n} (omega arith))
+      ] in
+      sym rest ∙ sym (sets-append (take n word) (drop n word) e at) ∙ ap (sets e at) (take-append-drop n word)
+
+  pub put-copied :
+      (z : List ℕ) {r : ℕ}
+      → r ≡ length (take n word)
+      → z ≡ take (length (take n word)) (take n word) ++ drop (length (take n word)) (midOf at (length e - at) e)
+      → Put word e at (putMid at (length e - at) e z) (at + r)
+  put-copied z {r} c b =
+      record {
+        bytes =
+            ap (λ l. take at e ++ l) copied ∙ sym (append-assoc (take at e) (take n word) _)
+            ∙ sym (sets-eq (take n word) e at (omega (arith, part-length, room))) ∙ sets-part;
+        next = omega (arith, c, part-length, room);
+      }
+    where
+      copied : z ++ drop (length e - at) (drop at e) ≡ take n word ++ drop (at + length (take n word)) e
+      copied =
+          let whole : midOf at (length e - at) e ≡ drop at e = take-all (length e - at) (drop at e) (rw length-drop (le-refl _)) in
+          ap (λ l. z ++ l) (drop-of-length-le (drop at e) {i = length e - at} (rw length-drop (le-refl _))) ∙ append-nil z ∙ b
+          ∙ ap (λ l. l ++ drop (length (take n word)) (midOf at (length e - at) e)) (take-all (length (take n word)) (take n word) (le-refl _))
+          ∙ ap (λ l. take n word ++ drop (length (take n word)) l) whole
+          ∙ ap (λ l. take n word ++ l) (drop-drop (length (take n word)) at e)
 
 -- Number after numbered of a list.
 

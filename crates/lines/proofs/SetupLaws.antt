@@ -4,7 +4,7 @@ use mathlib.Core.Path.{_≡_, refl, _∙_}
 use mathlib.Core.List.{List, [], _∷_, _++_}
 use native.Mathlib.Nat.{div-lt-iff-lt-mul}
 use native.Mathlib.Omega.{arith}
-use lib.ListN.{length, replicate, drop}
+use lib.ListN.{length, drop}
 use borrow.Author.Tests.{eq-eqb, ne-eqb, le-leb, lt-leb}
 use Rattle.laws.specs.Choice.{if_then_else_}
 use Rattle.laws.specs.Range.{tableTo}
@@ -12,11 +12,7 @@ use Rattle.laws.proofs.Fill.{fill-all}
 use Rattle.rules.specs.declared.Settings.{Settings}
 use Rattle.rules.specs.declared.Setup.{Setup}
 use Rattle.rules.specs.State.{at, zeroSettings}
-use Rattle.rules.specs.Setup.{zeroSetup}
 use Rattle.lines.specs.Setups.{placeOfD, announced, countPlace, settingsAt, settingsIn, homesBehind, setupFrom}
-
-pub zero-made : (g : Settings) → g ≡ zeroSettings → _≡_ {A = Setup} (record { transports = 0; settings = g ∷ g ∷ g ∷ g ∷ []; destinations = 0; home = replicate 32 0 }) zeroSetup
-zero-made g e = rw e refl
 
 -- Whether the numbers are as many as announced.
 

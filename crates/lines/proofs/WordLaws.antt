@@ -1,18 +1,17 @@
 -- The words of what is left of a line, from a place on.
 use Prim.Native.Nat.{ℕ, zero, suc, _+_, _-_, _≤_, _<_}
 use mathlib.Core.Path.{_≡_, refl, sym, _∙_, ap}
-use mathlib.Core.Bool.{Bool, true, false, not, _&&_}
+use mathlib.Core.Bool.{Bool, true, false, not}
 use mathlib.Core.List.{List, [], _∷_, _++_, append-nil}
 use native.Mathlib.Omega.{arith}
-use native.Mathlib.Numerals.{add-one}
 use native.Mathlib.Decide.{decLt}
 use lib.ListN.{length, getD, take, drop, take-append-drop, length-drop, drop-of-length-le}
 use lib.Seq.{drop-cons, drop-drop, getD-take, getD-drop, length-take-le}
 use lib.Dec.{eqb}
-use borrow.Author.Tests.{eqb-true, eq-eqb, ne-eqb, not-true, not-false}
+use borrow.Author.Tests.{eqb-true, eq-eqb, not-true, not-false}
 use Rattle.laws.specs.Choice.{if_then_else_}
 use Rattle.laws.specs.Sequence.{everyIn}
-use Rattle.laws.proofs.Choice.{and-left, and-right, and-right-false, not-is-true, true-not-false}
+use Rattle.laws.proofs.Choice.{and-left, and-right, not-is-true, true-not-false, false-of}
 use Rattle.laws.proofs.Sequence.{every-from-getD}
 use Rattle.lines.specs.Words.{longer, pieces, notEmpty, wordsOf, sameBytes, FirstFrom, isByte, notBlank}
 
@@ -100,25 +99,19 @@ module _ (s : List ℕ) (at end : ℕ) (b : notBlank s at ≡ true) (f : FirstFr
 
 -- Two words compared byte for byte.
 
-pub same-lengths : (a b : List ℕ) → (length a ≡ length b → ⊥) → false ≡ sameBytes a b
+same-self : (a : List ℕ) → sameBytes a a ≡ true
 unfolding sameBytes
-same-lengths [] [] h = absurd (h refl)
-same-lengths [] (y ∷ b) h = refl
-same-lengths (x ∷ a) [] h = refl
-same-lengths (x ∷ a) (y ∷ b) h = sym (and-right-false (eqb x y) (sym (same-lengths a b (λ e. h (ap suc e)))))
+same-self [] = refl
+same-self (x ∷ a) = rw (eq-eqb x x refl) (same-self a)
 
-module _ (a b : List ℕ) (i : ℕ) (e : sameBytes a b ≡ sameBytes (drop i a) (drop i b)) where
-  pub same-end : length a ≤ i → length b ≤ i → true ≡ sameBytes a b
-  unfolding sameBytes
-  same-end h k = sym (e ∙ rw (drop-of-length-le a h, drop-of-length-le b k) refl)
+same-bytes : (a b : List ℕ) → sameBytes a b ≡ true → a ≡ b
+unfolding sameBytes
+same-bytes [] [] h = refl
+same-bytes [] (y ∷ b) h = true-not-false h refl
+same-bytes (x ∷ a) [] h = true-not-false h refl
+same-bytes (x ∷ a) (y ∷ b) h = rw (eqb-true x y (and-left (eqb x y) (sameBytes a b) h), same-bytes a b (and-right (eqb x y) (sameBytes a b) h)) refl
 
-  module _ (h : i < length a) (k : i < length b) where
-    same-next : sameBytes a b ≡ eqb (getD a i 0) (getD b i 0) && sameBytes (drop (suc i) a) (drop (suc i) b)
-    unfolding sameBytes
-    same-next = e ∙ rw (drop-cons a i 0 h, drop-cons b i 0 k) refl
-
-    pub same-not : (getD a i 0 ≡ getD b i 0 → ⊥) → false ≡ sameBytes a b
-    same-not n = sym (same-next ∙ rw (ne-eqb (getD a i 0) (getD b i 0) n) refl)
-
-    pub same-more : getD a i 0 ≡ getD b i 0 → sameBytes a b ≡ sameBytes (drop (i + 1) a) (drop (i + 1) b)
-    same-more q = same-next ∙ rw (eq-eqb (getD a i 0) (getD b i 0) q, add-one) refl
+-- the kit's test says it
+pub same-is : (a b : List ℕ) (r : Bool) → (r ≡ true → a ≡ b) × (a ≡ b → r ≡ true) → r ≡ sameBytes a b
+same-is a b true h = sym (ap (sameBytes a) (sym (h .0 refl)) ∙ same-self a)
+same-is a b false h = sym (false-of (λ t. true-not-false (h .1 (same-bytes a b t)) refl))

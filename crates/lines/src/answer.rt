@@ -158,13 +158,11 @@ pub fn put_byte(out: &mut [u8], at: usize, b: u8) -> usize
 pub fn put(out: &mut [u8], at: usize, word: &[u8]) -> usize
     ensures { λ r. ⌜ Put (now (word .entry)) (now (out .entry)) at (now (out .exit)) r ⌝ }
 {
-    let mut p = at;
-    let mut i: usize = 0;
-    while i < word.len() {
-        p = put_byte(out, p, word[i]);
-        i += 1;
+    if out.len() <= at {
+        return at;
     }
-    p
+    let n = text::at_most(word.len() as u64, out.len() - at);
+    at + bytes::copy(&word[..n], &mut out[at..])
 }
 
 pub fn put_decimal(out: &mut [u8], at: usize, x: u64) -> usize

@@ -3,47 +3,11 @@ use crate::text::word;
 use rules::Feedback;
 use rules::Settings;
 use rules::Setup;
+use startup::zero_settings;
 ghost use Prim.Native.Nat.{_≤_};
 ghost use mathlib.Core.Path.{_≡_};
 ghost use lib.ListN.{length};
-ghost use Rattle.rules.specs.Setup.{zeroSetup};
-ghost use Rattle.rules.specs.State.{zeroSettings};
 ghost use Rattle.lines.specs.Setups.{countPlace, settingsIn, homesBehind, setupFrom};
-
-// The set-up of all zeros.
-pub fn no_setup() -> Setup
-    ensures { λ r. ⌜ r ≡ zeroSetup ⌝ }
-{
-    let g = no_settings();
-    Setup {
-        transports: 0,
-        settings: [g; 4],
-        destinations: 0,
-        home: [0u64; 32],
-    }
-}
-
-fn no_settings() -> Settings
-    ensures { λ r. ⌜ r ≡ zeroSettings ⌝ }
-{
-    let f = Feedback {
-        percent: 0,
-        form: 0,
-    };
-    Settings {
-        agents: 0,
-        cost: 0,
-        loan: 0,
-        discount: 0,
-        minimum: 0,
-        limit: 0,
-        initial: 0,
-        positive: f,
-        negative: f,
-        cohortlimit: 0,
-        suspension: 0,
-    }
-}
 
 // The place of a set-up's number of destinations; 0 where the numbers are not as many as it announces.
 pub fn count_place(words: &[u64]) -> usize
@@ -89,7 +53,7 @@ fn settings(words: &[u64], t: u64, i: u32) -> Settings
     ensures { λ r. ⌜ r ≡ settingsIn (now (words .entry)) t i ⌝ }
 {
     if t <= (i as u64) {
-        return no_settings();
+        return zero_settings();
     }
     let at = 1 + 13 * (i as usize);
     let positive = Feedback {

@@ -1,25 +1,11 @@
-// Bytes of a line: finding one, and words read as numbers.
+// Bytes of a line: blanks, and words read as numbers.
+use bytes::scan::find;
 ghost use Prim.Native.Nat.{_+_, _*_, _-_, _≤_, min};
 ghost use mathlib.Core.Path.{_≡_};
 ghost use mathlib.Core.List.{_++_};
 ghost use lib.ListN.{length, getD, take, drop};
-ghost use Rattle.lines.specs.Words.{wordsOf, sameBytes, numberOf};
-ghost use Rattle.lines.specs.Words.{FirstFrom, isByte, notBlank, Read};
-
-// The first place from `from` on, before `to`, that holds the byte; `to` where there is none.
-pub fn find(s: &[u8], from: usize, to: usize, byte: u8) -> usize
-    requires { ⌜ (from ≤ to) × (to ≤ length (now s)) ⌝ }
-    ensures { λ r. ⌜ FirstFrom (isByte (now (s .entry)) byte) from to r ⌝ }
-{
-    let mut i = from;
-    while i < to {
-        if s[i] == byte {
-            return i;
-        }
-        i += 1;
-    }
-    i
-}
+ghost use Rattle.lines.specs.Words.{wordsOf, numberOf};
+ghost use Rattle.lines.specs.Words.{FirstFrom, notBlank, Read};
 
 // The first place from `from` on that holds no blank; the length where there is none.
 pub fn skip_blanks(s: &[u8], from: usize) -> usize
@@ -34,23 +20,6 @@ pub fn skip_blanks(s: &[u8], from: usize) -> usize
         i += 1;
     }
     i
-}
-
-// Whether the two are the same bytes.
-pub fn same(a: &[u8], b: &[u8]) -> bool
-    ensures { λ r. ⌜ r ≡ sameBytes (now (a .entry)) (now (b .entry)) ⌝ }
-{
-    if a.len() != b.len() {
-        return false;
-    }
-    let mut i: usize = 0;
-    while i < a.len() {
-        if a[i] != b[i] {
-            return false;
-        }
-        i += 1;
-    }
-    true
 }
 
 // Moves the bytes from `from` up to `to` to the front.

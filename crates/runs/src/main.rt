@@ -8,6 +8,8 @@
 // Empty lines and lines that begin with '#' are passed over.
 ghost use Prim.Native.Nat.{_+_, _*_, _≤_};
 ghost use lib.ListN.{length};
+use bytes::scan::find;
+use check::same;
 use libc::STDIN_FILENO;
 use lines::answer;
 use lines::setups;
@@ -40,13 +42,13 @@ fn read_lines(input: &mut [u8], words: &mut [u64], list: &mut [u64], out: &mut [
 {
     let n = io::read_full(STDIN_FILENO, input);
     let mut desk = Desk {
-        setup: setups::no_setup(),
+        setup: startup::zero_setup(),
         count: 0,
     };
     let mut at: usize = 0;
     while at < n {
         let start = at;
-        let end = text::find(input, start, n, 10);
+        let end = find(input, start, n, 10);
         at = end + 1;
         desk = step(&input[start..end], words, list, out, desk);
     }
@@ -65,16 +67,16 @@ fn step(line: &[u8], words: &mut [u64], list: &mut [u64], out: &mut [u8], desk: 
     if line[at] == 35 {
         return desk;
     }
-    let end = text::find(line, at, n, 32);
+    let end = find(line, at, n, 32);
     let name = &line[at..end];
-    if text::same(name, b"setup") {
+    if same(name, b"setup") {
         let k = numbers(line, end, words);
         return Desk {
             setup: read_setup(&words[..k]),
             count: 0,
         };
     }
-    if text::same(name, b"run") {
+    if same(name, b"run") {
         let k = numbers(line, end, words);
         let count = text::at_most(desk.count as u64, list.len());
         run(u, &list[..count], &words[..k], out);
@@ -91,7 +93,7 @@ fn step(line: &[u8], words: &mut [u64], list: &mut [u64], out: &mut [u8], desk: 
 fn read_setup(words: &[u64]) -> Setup {
     let at = setups::count_place(words);
     if at == 0 {
-        return setups::no_setup();
+        return startup::zero_setup();
     }
     setups::setup_of(words, at)
 }

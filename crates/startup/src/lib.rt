@@ -69,7 +69,9 @@ fn no_entries() -> Entries
     }
 }
 
-fn zero_settings() -> Settings
+// Settings, and a set-up, of all zeros.
+
+pub fn zero_settings() -> Settings
     ensures { λ r. ⌜ r ≡ zeroSettings ⌝ }
 {
     let f = Feedback {
@@ -91,7 +93,7 @@ fn zero_settings() -> Settings
     }
 }
 
-fn zero_setup() -> Setup
+pub fn zero_setup() -> Setup
     ensures { λ r. ⌜ r ≡ zeroSetup ⌝ }
 {
     let g = zero_settings();

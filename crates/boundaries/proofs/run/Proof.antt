@@ -15,8 +15,8 @@ abbrev μ-loop : tie.MeasureT-loop
 read-full-requires : tie.Need-read-full-requires Inv-loop μ-loop
 read-full-requires c κs = search needs
 
-no-state-requires : tie.Need-no-state-requires Inv-loop μ-loop
-no-state-requires c κs = search needs
+zero-requires : tie.Need-zero-requires Inv-loop μ-loop
+zero-requires c κs = search needs
 
 loop-holds : tie.Need-loop-holds Inv-loop μ-loop
 loop-holds c = search needs
@@ -70,7 +70,7 @@ run-spec =
     Inv-loop
     μ-loop
     read-full-requires
-    no-state-requires
+    zero-requires
     loop-holds
     find-requires
     add-at

@@ -12,8 +12,8 @@ Inv-loop line₀ words₀ state₀ h₀ seen₀ left₀ line words state h seen 
 abbrev μ-loop : tie.MeasureT-loop
 μ-loop line₀ words₀ state₀ h₀ seen₀ left₀ line words state h seen left = left
 
-no-state-requires : tie.Need-no-state-requires Inv-loop μ-loop
-no-state-requires c κs = search needs
+zero-requires : tie.Need-zero-requires Inv-loop μ-loop
+zero-requires c κs = search needs
 
 none-requires : tie.Need-none-requires Inv-loop μ-loop
 none-requires c κs = search needs
@@ -99,7 +99,7 @@ run-spec =
     (tie.spec
     Inv-loop
     μ-loop
-    no-state-requires
+    zero-requires
     none-requires
     loop-holds
     sub-left

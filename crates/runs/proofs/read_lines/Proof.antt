@@ -4,12 +4,6 @@ use lib.ListN.{length}
 use borrow.Author.Needs.{needs}
 use Rattle.runs.proofs.read_lines.Statement.{statement}
 use Rattle.runs.proofs.read_lines.Tie as tie
-use Rattle.runs.proofs.read_lines.Reads as reads
-use Rattle.runs.proofs.read_lines.Lts as lts
-use Rattle.io.proofs.read_full.Reads as read-full-reads
-use Rattle.lines.proofs.setups.no_setup.Reads as no-setup-reads
-use Rattle.lines.proofs.text.find.Reads as find-reads
-use Rattle.runs.proofs.step.Reads as step-reads
 
 abbrev Inv-loop : tie.InvT-loop
 Inv-loop input words₀ list₀ out₀ n desk₀ at₀ words list out desk at = (length words ≡ length words₀) × (length list ≡ length list₀) × (length out ≡ length out₀) × (n ≤ length input)
@@ -20,8 +14,8 @@ abbrev μ-loop : tie.MeasureT-loop
 read-full-requires : tie.Need-read-full-requires Inv-loop μ-loop
 read-full-requires c κs = search needs
 
-no-setup-requires : tie.Need-no-setup-requires Inv-loop μ-loop
-no-setup-requires c κs = search needs
+zero-setup-requires : tie.Need-zero-setup-requires Inv-loop μ-loop
+zero-setup-requires c κs = search needs
 
 loop-holds : tie.Need-loop-holds Inv-loop μ-loop
 loop-holds c = search needs
@@ -72,7 +66,7 @@ read-lines-spec =
     Inv-loop
     μ-loop
     read-full-requires
-    no-setup-requires
+    zero-setup-requires
     loop-holds
     find-requires
     add-at

@@ -4,16 +4,6 @@ use lib.Seq.{length-take-le}
 use borrow.Author.Needs.{needs}
 use Rattle.runs.proofs.step.Statement.{statement}
 use Rattle.runs.proofs.step.Tie as tie
-use Rattle.runs.proofs.step.Reads as reads
-use Rattle.runs.proofs.step.Lts as lts
-use Rattle.runs.proofs.read_setup.Reads as read-setup-reads
-use Rattle.lines.proofs.text.at_most.Reads as at-most-reads
-use Rattle.lines.proofs.text.find.Reads as find-reads
-use Rattle.lines.proofs.text.same.Reads as same-reads
-use Rattle.lines.proofs.text.skip_blanks.Reads as skip-blanks-reads
-use Rattle.runs.proofs.append.Reads as append-reads
-use Rattle.runs.proofs.numbers.Reads as numbers-reads
-use Rattle.runs.proofs.run.Reads as run-reads
 
 skip-blanks-requires : tie.Need-skip-blanks-requires
 skip-blanks-requires c κs = search needs

@@ -5,11 +5,11 @@ use borrow.Author.Needs.{needs}
 use Rattle.lines.proofs.setups.settings.Statement.{statement}
 use Rattle.lines.proofs.setups.settings.Tie as tie
 
-no-settings-requires : tie.Need-no-settings-requires
-no-settings-requires c κs = search needs
+zero-settings-requires : tie.Need-zero-settings-requires
+zero-settings-requires c κs = search needs
 
 returns : tie.Need-returns
-returns c = settings-none _ _ _ _ (c .no-settings .ensures) (c .before .if1 .taken)
+returns c = settings-none _ _ _ _ (c .zero-settings .ensures) (c .before .if1 .taken)
 
 mul-at : tie.Need-mul-at
 mul-at c = search needs
@@ -107,7 +107,7 @@ pub settings-spec : {M : Type 1} → statement M
 settings-spec =
     tie.close
     (tie.spec
-    no-settings-requires
+    zero-settings-requires
     returns
     mul-at
     add-at

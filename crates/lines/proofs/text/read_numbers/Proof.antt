@@ -1,8 +1,10 @@
 -- The words before the place are numbers, and stand at the front; what is left is the measure. Assumes nothing.
-use Prim.Native.Nat.{_-_}
+use Prim.Native.Nat.{_+_, _-_, _<_}
 use mathlib.Core.Path.{sym, _∙_}
 use native.Mathlib.Omega.{arith}
 use lib.ListN.{length}
+use Rattle.lines.specs.Words.{FirstFrom, isByte}
+use Rattle.lines.proofs.FirstLaws.{first-byte}
 use Rattle.lines.proofs.ReadingLaws.{Reading, reading-start, reading-end, reading-room, reading-not, reading-more}
 use borrow.Author.Needs.{needs}
 use Rattle.lines.proofs.text.read_numbers.Statement.{statement}
@@ -13,6 +15,25 @@ Inv-loop s from out₀ count₀ at₀ out count at = Reading s from out₀ out c
 
 abbrev μ-loop : tie.MeasureT-loop
 μ-loop s from out₀ count₀ at₀ out count at = length s - at
+
+-- the head of a turn and the start, seen from where the word's end is found, and that from where the word is read or not
+
+abbrev head : tie.After-find Inv-loop μ-loop → tie.At-loop Inv-loop μ-loop
+head c = c .before .before
+
+abbrev start : tie.At-loop Inv-loop μ-loop → tie.Start Inv-loop μ-loop
+start c = c .before .before .before .before
+
+abbrev told : tie.After-enum-told Inv-loop μ-loop → tie.After-find Inv-loop μ-loop
+told c = c .before .before .before .before
+
+abbrev read : tie.After-known-told Inv-loop μ-loop → tie.After-find Inv-loop μ-loop
+read c = c .before .before .before .before .before
+
+-- the word ends at the first blank
+ends : (c : tie.After-find Inv-loop μ-loop) → (head c .loop .at < length (start (head c) .args .s .now))
+    → FirstFrom (isByte (start (head c) .args .s .now) 32) (head c .loop .at + 1) (length (start (head c) .args .s .now)) (c .find .result)
+ends c h = first-byte (start (head c) .args .s .now) 32 (head c .loop .at + 1) _ (omega arith) (omega arith) (c .find .ensures .0)
 
 skip-blanks-requires : tie.Need-skip-blanks-requires Inv-loop μ-loop
 skip-blanks-requires c κs = search needs
@@ -49,19 +70,18 @@ same-length c = search needs
 
 returns : tie.Need-returns Inv-loop μ-loop
 returns c =
-    reading-not _ _ _ _ _ _ (c .before .before .before .before .before .before .loop .inv) (omega arith)
-    (c .before .before .before .before .before .before .before .before .before .before .pre .1) _ (c .before .before .before .before .find .ensures)
+    let f = told c in
+    reading-not _ _ _ _ _ _ (head f .loop .inv) (f .before .loop-test .taken) (start (head f) .pre .1) _ (ends f (f .before .loop-test .taken))
     (sym (c .before .before .read-number .ensures) ∙ c .enum-told .given .1)
 
+room : (c : tie.After-known-told Inv-loop μ-loop) → head (read c) .loop .count < length (head (read c) .loop .out)
+room c = reading-room _ _ _ _ _ _ (head (read c) .loop .inv) (read c .before .loop-test .taken) (start (head (read c)) .pre .1)
+
 mul-out : tie.Need-mul-out Inv-loop μ-loop
-mul-out c =
-    let h = reading-room _ _ _ _ _ _ (c .before .before .before .before .before .before .before .loop .inv) (omega arith)
-    (c .before .before .before .before .before .before .before .before .before .before .before .pre .1) in search needs
+mul-out c = let h = room c in search needs
 
 slice-write-out : tie.Need-slice-write-out Inv-loop μ-loop
-slice-write-out c =
-    reading-room _ _ _ _ _ _ (c .before .before .before .before .before .before .before .loop .inv) (omega arith)
-    (c .before .before .before .before .before .before .before .before .before .before .before .pre .1)
+slice-write-out c = room c
 
 add-count : tie.Need-add-count Inv-loop μ-loop
 add-count c = search needs
@@ -74,8 +94,8 @@ loop-less c = search needs
 
 loop-again : tie.Need-loop-again Inv-loop μ-loop
 loop-again c =
-    reading-more _ _ _ _ _ _ (c .before .before .before .before .before .before .before .before .loop .inv) (omega arith)
-    (c .before .before .before .before .before .before .before .before .before .before .before .before .pre .1) _ (c .before .before .before .before .before .before .find .ensures) _
+    let f = read (c .before) in
+    reading-more _ _ _ _ _ _ (head f .loop .inv) (f .before .loop-test .taken) (start (head f) .pre .1) _ (ends f (f .before .loop-test .taken)) _
     (sym (c .before .before .before .before .read-number .ensures) ∙ c .before .before .x .given .1) _ (c .skip-blanks2 .ensures)
 
 same-length-2 : tie.Need-same-length-2 Inv-loop μ-loop
