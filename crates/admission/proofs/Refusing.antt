@@ -1,31 +1,30 @@
--- Each row of the table of refusals, from what a pass over the columns found.
+-- Each row of the table of refusals after the clock's, from what a pass over the columns found.
 use Prim.Native.Nat.{ℕ, _≤_, _<_}
 use mathlib.Core.Bool.{Bool, true, false, not, _&&_}
-use mathlib.Core.Path.{_≡_, ap, _∙_}
+use mathlib.Core.Path.{_≡_, refl, ap, _∙_}
 use mathlib.Core.List.{List}
 use native.Mathlib.Omega.{arith}
 use lib.ListN.{length, getD}
-use lib.Dec.{eqb, ltb, leb}
+use lib.Dec.{eqb, ltb}
 use borrow.Author.Tests.{ltb-true, lt-ltb, le-ltb, le-leb, lt-leb, eqb-true, eq-eqb, not-false}
 use Rattle.laws.specs.Choice.{if_then_else_}
 use Rattle.laws.specs.Range.{allTo, countTo, firstTo, tableTo}
-use Rattle.laws.specs.Sequence.{everyIn, keep}
-use Rattle.laws.proofs.Choice.{and-both, and-left, or-right, or-neither, bool-same, not-is-false}
+use Rattle.laws.specs.Sequence.{everyIn}
+use Rattle.laws.proofs.Choice.{case-bool, and-both, and-left, bool-same, not-is-false}
 use Rattle.laws.proofs.All.{all-at, all-from}
 use Rattle.laws.proofs.First.{first-none, first-before, chosen-same}
 use Rattle.laws.proofs.Keep.{keep-same}
 use Rattle.laws.proofs.Table.{getD-table}
 use Rattle.laws.proofs.Sequence.{every-getD, holds-place}
-use Rattle.rules.specs.declared.Destination.{Destination}
 use Rattle.rules.specs.declared.State.{State}
-use Rattle.rules.specs.Sizes.{lastSecond}
-use Rattle.rules.specs.State.{at, isPresent, isFree}
+use Rattle.rules.specs.State.{at}
 use Rattle.rules.specs.Setup.{within}
 use Rattle.rules.specs.Sound.{sound}
-use Rattle.rules.specs.Windows.{woken, wokenAt}
-use Rattle.rules.specs.Taking.{isDead, keptOf, nOf, putOffPositions, newNumber}
+use Rattle.rules.specs.Windows.{woken}
+use Rattle.rules.specs.Taking.{isDead, keptOf, nOf, putOffPositions}
 use Rattle.rules.specs.Refusals.{badClock, isDestinationOn, lacksNumber, lacksPlaces, jobRefusal}
-use Rattle.admission.specs.Admission.{deadOn, onTransport, freeIn, keptBy, putOffBy}
+use Rattle.rules.proofs.Soundness.{few-destinations}
+use Rattle.admission.specs.Admission.{deadOn, onTransport, freeIn, keptBy, putOffBy, furtherRefusal}
 
 -- What the columns say of the state after waking.
 
@@ -50,14 +49,6 @@ module _ (w : State) (dead : List Bool) (table : dead ≡ tableTo (deadOn (w .de
   put-off-by-is =
       chosen-same (λ i. getD dead (at dests i) false) (λ i. isDead w (at dests i)) (length dests) λ i h. dead-at (at dests i) (small i h)
 
-pub woken-table :
-    (s : State) (now : ℕ) (ds : List Destination) (dead : List Bool)
-    → ds ≡ tableTo (wokenAt (s .destinations) (s .setup) now) 32
-    → dead ≡ tableTo (deadOn ds) 32
-    → dead ≡ tableTo (deadOn (woken s now .destinations)) 32
-unfolding woken
-woken-table s now ds dead e f = rw (← e) f
-
 -- all present, as the lowest free number says it
 all-present : (p : ℕ → Bool) → allTo p 32 ≡ eqb (firstTo (λ j. not (p j)) 32) 32
 all-present p =
@@ -67,92 +58,65 @@ all-present p =
     let e = eqb-true (firstTo (λ j. not (p j)) 32) 32 t in
     all-from p 32 λ i h. not-false (p i) (first-before (λ j. not (p j)) 32 i (rw e h)))
 
-module _ (s : State) (now t : ℕ) (dests list : List ℕ) (whole : sound s ≡ true) where
-  pub refuses-early : now < s .clock → jobRefusal s now t dests list ≡ 3
-  unfolding jobRefusal badClock if_then_else_
-  refuses-early h = rw (whole, lt-ltb now (s .clock) h)
+-- Each test, in the table's order.
 
-  module _ (later : s .clock ≤ now) where
-    pub refuses-late : lastSecond < now → jobRefusal s now t dests list ≡ 3
-    unfolding jobRefusal badClock if_then_else_
-    refuses-late h = rw (whole, or-right (ltb now (s .clock)) (lt-ltb lastSecond now h))
+module _ (home : List ℕ) (present : List Bool) (kind : List ℕ) (transports count t : ℕ) (dests : List ℕ) (n places : ℕ) where
+  abbrev Refused : ℕ → Type 0
+  Refused k = k ≡ furtherRefusal home present kind transports count t dests n places
 
-    module _ (early : now ≤ lastSecond) where
-      good-clock : badClock s now ≡ false
-      unfolding badClock
-      good-clock = or-neither (le-ltb now (s .clock) later) (le-ltb lastSecond now early)
+  pub refuses-transport : transports ≤ t → Refused 4
+  unfolding furtherRefusal if_then_else_
+  refuses-transport h = rw (le-ltb t transports h) refl
 
-      pub refuses-transport : s .setup .transports ≤ t → jobRefusal s now t dests list ≡ 4
-      unfolding jobRefusal if_then_else_
-      refuses-transport h = rw (whole, good-clock, le-ltb t (s .setup .transports) h)
+  module _ (there : t < transports) where
+    pub refuses-none : length dests < 1 → Refused 5
+    unfolding furtherRefusal within if_then_else_
+    refuses-none h = rw (lt-ltb t transports there, lt-leb 1 (length dests) h) refl
 
-      module _ (there : t < s .setup .transports) where
-        pub refuses-none : length dests < 1 → jobRefusal s now t dests list ≡ 5
-        unfolding jobRefusal within if_then_else_
-        refuses-none h = rw (whole, good-clock, lt-ltb t (s .setup .transports) there, lt-leb 1 (length dests) h)
+    module _ (some : 1 ≤ length dests) where
+      pub refuses-many : 256 < length dests → Refused 5
+      unfolding furtherRefusal within if_then_else_
+      refuses-many h = rw (lt-ltb t transports there, le-leb 1 (length dests) some, lt-leb (length dests) 256 h) refl
 
-        module _ (some : 1 ≤ length dests) where
-          pub refuses-many : 256 < length dests → jobRefusal s now t dests list ≡ 5
-          unfolding jobRefusal within if_then_else_
-          refuses-many h = rw (whole, good-clock, lt-ltb t (s .setup .transports) there, le-leb 1 (length dests) some, lt-leb (length dests) 256 h)
+      module _ (few : length dests ≤ 256) where
+        right-length : within 1 256 (length dests) ≡ true
+        unfolding within
+        right-length = and-both (le-leb 1 (length dests) some) (le-leb (length dests) 256 few)
 
-          module _ (few : length dests ≤ 256) where
-            right-length : within 1 256 (length dests) ≡ true
-            unfolding within
-            right-length = and-both (le-leb 1 (length dests) some) (le-leb (length dests) 256 few)
+        pub refuses-other : everyIn (onTransport home count t) dests ≡ false → Refused 6
+        unfolding furtherRefusal if_then_else_
+        refuses-other h = rw (lt-ltb t transports there, right-length, h) refl
 
-            pub refuses-other : everyIn (onTransport (s .setup .home) (s .setup .destinations) t) dests ≡ false → jobRefusal s now t dests list ≡ 6
-            unfolding jobRefusal if_then_else_ onTransport isDestinationOn
-            refuses-other h = rw (whole, good-clock, lt-ltb t (s .setup .transports) there, right-length, h)
+        -- with m entries counted, and j the lowest free number
+        module _ (theirs : everyIn (onTransport home count t) dests ≡ true) (m : ℕ) (counted : m ≡ n) (j : ℕ)
+            (lowest : j ≡ firstTo (λ i. not (getD present i false)) 32) where
+          number-says : ltb 0 m && eqb j 32 ≡ (ltb 0 n && allTo (λ i. getD present i false) 32)
+          number-says = rw (counted, lowest, all-present (λ i. getD present i false))
 
-            module _ (theirs : everyIn (onTransport (s .setup .home) (s .setup .destinations) t) dests ≡ true) (n : ℕ) (counted : n ≡ nOf (woken s now) dests) where
-              pub refuses-number : ltb 0 n && eqb (newNumber (woken s now)) 32 ≡ true → jobRefusal s now t dests list ≡ 7
-              unfolding jobRefusal if_then_else_ onTransport isDestinationOn lacksNumber newNumber
-              refuses-number h =
-                  rw (whole, good-clock, lt-ltb t (s .setup .transports) there, right-length, theirs, ← counted, all-present (isPresent (woken s now)), h)
+          pub refuses-number : ltb 0 m && eqb j 32 ≡ true → Refused 7
+          unfolding furtherRefusal if_then_else_
+          refuses-number h = rw (lt-ltb t transports there, right-length, theirs, ← number-says, h) refl
 
-              module _ (number : ltb 0 n && eqb (newNumber (woken s now)) 32 ≡ false) where
-                enough : lacksNumber (woken s now) dests ≡ false
-                unfolding lacksNumber newNumber
-                enough = rw (← counted, all-present (isPresent (woken s now))) number
+          module _ (number : ltb 0 m && eqb j 32 ≡ false) (free : ℕ) (room : free ≡ countTo (freeIn kind) 512) where
+            pub refuses-places : free < m → Refused 8
+            unfolding furtherRefusal if_then_else_
+            refuses-places h =
+                let less : ltb (countTo (freeIn kind) 512) n ≡ true = rw (← room, ← counted) (lt-ltb free m h) in
+                rw (lt-ltb t transports there, right-length, theirs, ← number-says, number, less) refl
 
-                pub refuses-places : countTo (isFree (woken s now)) 512 < n → jobRefusal s now t dests list ≡ 8
-                unfolding jobRefusal if_then_else_ onTransport isDestinationOn lacksPlaces
-                refuses-places h =
-                    rw (whole, good-clock, lt-ltb t (s .setup .transports) there, right-length, theirs, enough, ← counted, lt-ltb (countTo (isFree (woken s now)) 512) n h)
+            module _ (enough : m ≤ free) where
+              not-less : ltb (countTo (freeIn kind) 512) n ≡ false
+              not-less = rw (← room, ← counted) (le-ltb free m enough)
 
-                module _ (room : n ≤ countTo (isFree (woken s now)) 512) where
-                  free-enough : lacksPlaces (woken s now) dests ≡ false
-                  unfolding lacksPlaces
-                  free-enough = rw (← counted) (le-ltb (countTo (isFree (woken s now)) 512) n room)
+              pub refuses-list : places < length dests → Refused 10
+              unfolding furtherRefusal if_then_else_
+              refuses-list h =
+                  rw (lt-ltb t transports there, right-length, theirs, ← number-says, number, not-less, lt-ltb places (length dests) h) refl
 
-                  pub refuses-list : length list < length dests → jobRefusal s now t dests list ≡ 10
-                  unfolding jobRefusal if_then_else_ onTransport isDestinationOn
-                  refuses-list h =
-                      rw (
-                        whole,
-                        good-clock,
-                        lt-ltb t (s .setup .transports) there,
-                        right-length,
-                        theirs,
-                        enough,
-                        free-enough,
-                        lt-ltb (length list) (length dests) h,
-                      )
-
-                  pub refuses-nothing : length dests ≤ length list → jobRefusal s now t dests list ≡ 0
-                  unfolding jobRefusal if_then_else_ onTransport isDestinationOn
-                  refuses-nothing h =
-                      rw (
-                        whole,
-                        good-clock,
-                        lt-ltb t (s .setup .transports) there,
-                        right-length,
-                        theirs,
-                        enough,
-                        free-enough,
-                        le-ltb (length list) (length dests) h,
-                      )
+              pub refuses-nothing : length dests ≤ places → Refused 0
+              unfolding furtherRefusal if_then_else_
+              refuses-nothing h =
+                  rw (lt-ltb t transports there, right-length, theirs, ← number-says, number, not-less, le-ltb places (length dests) h) refl
 
 -- destinations of one transport are below 32
 pub small-of : (home : List ℕ) (count t : ℕ) (dests : List ℕ) → count ≤ 32 → everyIn (onTransport home count t) dests ≡ true → Small dests
@@ -161,23 +125,28 @@ small-of home count t dests h e k l =
     let d = at dests k in
     omega (arith, ltb-true d count (and-left (ltb d count) (eqb (at home d) t) (every-getD (λ d. ltb d count && eqb (at home d) t) dests e k 0 l)))
 
--- What the passes found, of the state after waking.
+-- Of a sound state with a good clock, these tests are the rules'.
 
-module _ (s : State) (now : ℕ) where
-  pub counted-is :
-      (ds : List Destination) (dead : List Bool) (dests : List ℕ) (n : ℕ)
-      → ds ≡ tableTo (wokenAt (s .destinations) (s .setup) now) 32
-      → dead ≡ tableTo (deadOn ds) 32
-      → Small dests
-      → n ≡ length (keptBy dead dests)
-      → n ≡ nOf (woken s now) dests
+module _ (s : State) (now t : ℕ) (dests list : List ℕ) (whole : sound s ≡ true) (good : badClock s now ≡ false) where
+  -- by the number of entries that would wait
+  abbrev further : ℕ → ℕ
+  further n =
+      furtherRefusal (s .setup .home) (s .jobs .present) (s .entries .kind) (s .setup .transports) (s .setup .destinations) t dests n (length list)
+
+  further-counted : further (nOf (woken s now) dests) ≡ jobRefusal s now t dests list
+  unfolding furtherRefusal jobRefusal lacksNumber lacksPlaces onTransport isDestinationOn freeIn woken if_then_else_
+  further-counted = rw (whole, good) refl
+
+  -- where a destination is another transport's, that number is not asked
+  further-other : everyIn (onTransport (s .setup .home) (s .setup .destinations) t) dests ≡ false → (n m : ℕ) → further n ≡ further m
+  unfolding furtherRefusal if_then_else_
+  further-other h n m = rw h refl
+
+  pub further-is : (dead : List Bool) → dead ≡ tableTo (deadOn (woken s now .destinations)) 32 → further (length (keptBy dead dests)) ≡ jobRefusal s now t dests list
   unfolding nOf
-  counted-is ds dead dests n e f small h = h ∙ ap length (kept-by-is (woken s now) dead (woken-table s now ds dead e f) dests small)
-
-  pub number-is : (j : ℕ) → j ≡ firstTo (λ i. not (getD (s .jobs .present) i false)) 32 → j ≡ newNumber (woken s now)
-  unfolding newNumber woken
-  number-is j h = h
-
-  pub free-is : (k : ℕ) → k ≡ countTo (freeIn (s .entries .kind)) 512 → k ≡ countTo (isFree (woken s now)) 512
-  unfolding freeIn woken
-  free-is k h = h
+  further-is dead table =
+      case-bool (everyIn (onTransport (s .setup .home) (s .setup .destinations) t) dests)
+      (λ theirs.
+      let small = small-of (s .setup .home) (s .setup .destinations) t dests (few-destinations s whole) theirs in
+      ap (λ l. further (length l)) (kept-by-is (woken s now) dead table dests small) ∙ further-counted)
+      (λ other. further-other other _ _ ∙ further-counted)

@@ -1,19 +1,15 @@
-// The tests of a job, in the order of the table of refusals: document 01, "Refusal numbers". What they ask: which destinations are dead, whether a job's
+// The tests of a job after those of soundness and of the clock, in the order of the table of refusals: document 01, "Refusal numbers". What they ask: which destinations are dead, whether a job's
 // destinations are its transport's, how many of them would wait, and which number and how many places are free.
 use rules::Destination;
 use rules::Health;
-use rules::State;
 ghost use mathlib.Core.Path.{_≡_};
-ghost use mathlib.Core.Bool.{true, false, not};
-ghost use mathlib.Core.List.{List};
+ghost use mathlib.Core.Bool.{false, not};
 ghost use Prim.Native.Nat.{ℕ, _≤_, _<_};
 ghost use lib.ListN.{length, getD};
 ghost use Rattle.laws.specs.Range.{tableTo, countTo, firstTo};
 ghost use Rattle.laws.specs.Sequence.{everyIn};
 ghost use Rattle.rules.specs.State.{at, isLive};
-ghost use Rattle.rules.specs.Sound.{sound};
-ghost use Rattle.rules.specs.Refusals.{jobRefusal};
-ghost use Rattle.admission.specs.Admission.{deadOn, onTransport, freeIn, keptBy};
+ghost use Rattle.admission.specs.Admission.{deadOn, onTransport, freeIn, keptBy, furtherRefusal};
 
 fn is_dead(h: Health) -> bool
     ensures { λ r. ⌜ r ≡ not (isLive h) ⌝ }
@@ -106,20 +102,22 @@ pub fn count_free(kind: &[u8; 512]) -> usize
     n
 }
 
-// The refusal that a job meets, in the table's order; 0 for none. The caller has tested that the state is sound.
-pub fn refusal(s: State, now: u64, t: u64, dests: &[u64], places: usize) -> u8
-    requires { ⌜ sound s ≡ true ⌝ }
-    ensures { λ r. ⌜ ((list : List ℕ) → length list ≡ places → r ≡ jobRefusal s now t (dests .entry .now) list) ⌝ }
+// The refusal that a job meets once its clock is good, in the table's order; 0 for none. It reads columns of the state, and the table of those that are
+// dead after waking. Of a sound state's own columns this is `jobRefusal` (`further-is` of proofs/).
+pub fn refusal<'a>(
+    home: &'a [u64; 32],
+    present: &'a [bool; 32],
+    kind: &'a [u8; 512],
+    transports: u64,
+    destinations: u64,
+    t: u64,
+    dests: &[u64],
+    dead: &[bool; 32],
+    places: usize,
+) -> u8
+    requires { ⌜ destinations ≤ 32 ⌝ }
+    ensures { λ r. ⌜ r ≡ furtherRefusal (now (home .entry)) (now (present .entry)) (now (kind .entry)) transports destinations t (now (dests .entry)) (length (keptBy (now (dead .entry)) (now (dests .entry)))) places ⌝ }
 {
-    let clock = s.clock as u64;
-    if now < clock {
-        return 3;
-    }
-    if 4_294_967_295 < now {
-        return 3;
-    }
-    let u = s.setup;
-    let transports = u.transports;
     if transports <= t {
         return 4;
     }
@@ -129,20 +127,15 @@ pub fn refusal(s: State, now: u64, t: u64, dests: &[u64], places: usize) -> u8
     if 256 < dests.len() {
         return 5;
     }
-    if !all_on(&u.home, u.destinations, t, dests) {
+    if !all_on(home, destinations, t, dests) {
         return 6;
     }
-    let before = s.destinations;
-    let ds = waking::wake(before, u, now);
-    let dead = dead_table(ds);
-    let n = count_kept(dests, &dead);
-    let g = s.jobs;
-    let number = first_absent(&g.present);
+    let n = count_kept(dests, dead);
+    let number = first_absent(present);
     if (0 < n) & (number == 32) {
         return 7;
     }
-    let e = s.entries;
-    let free = count_free(&e.kind);
+    let free = count_free(kind);
     if free < n {
         return 8;
     }

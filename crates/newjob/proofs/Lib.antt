@@ -1,1 +1,3 @@
-pub mod Passes
+pub mod Parting
+pub mod Ordering
+pub mod Filling

@@ -2,15 +2,16 @@
 use columns::index16;
 use columns::wide;
 use rules::JobList;
+use rules::Jobs;
 ghost use mathlib.Core.Path.{_≡_};
-ghost use mathlib.Core.List.{[], _∷_, _++_};
+ghost use mathlib.Core.List.{List, [], _∷_, _++_};
 ghost use Prim.Native.Nat.{ℕ, _*_, _≤_, _<_};
 ghost use lib.ListN.{length};
 ghost use lib.Seq.{paste};
 ghost use Rattle.laws.specs.Range.{countTo, chosenTo};
 ghost use Rattle.laws.specs.Sequence.{padded, firstsTo};
 ghost use Rattle.rules.specs.State.{at, listOf, listed};
-ghost use Rattle.rules.specs.Taking.{filled};
+ghost use Rattle.rules.specs.Taking.{filled, newJobs};
 ghost use Rattle.admission.specs.Admission.{freeIn};
 ghost use Rattle.newjob.specs.NewJob.{Parted};
 
@@ -136,6 +137,30 @@ pub fn set_order(column: &mut [u8; 1024], j: u8, order: &[u8; 32])
         column[base + i] = order[i];
         i += 1;
     }
+}
+
+// The columns of the jobs with the row of a new one, number j, with n entries for the first n of these destinations.
+pub fn new_row(g: Jobs, j: u8, t: u8, n: u16, kept: &[u8; 256], clock: u32) -> Jobs
+    requires { ⌜ (j < 32) × (length (g .order) ≡ 1024) × (n ≤ 256) × ((i : ℕ) → i < n → at (now kept) i < 32) ⌝ }
+    ensures { λ r. ⌜ ((l : List ℕ) → now (kept .entry) ≡ padded 256 l → n ≡ length l → r ≡ newJobs g j t clock l) ⌝ }
+{
+    let order = firsts(kept, n as usize);
+    let k = j as usize;
+    let mut next = g;
+    next.present[k] = true;
+    next.transport[k] = t;
+    next.n[k] = n;
+    next.picked[k] = 0;
+    next.dropped[k] = 0;
+    next.sold[k] = 0;
+    next.parent[k] = 0;
+    next.preempted[k] = false;
+    next.arrival[k] = clock;
+    next.overtakers[k] = 0;
+    next.turn[k] = 0;
+    next.places[k] = order.count;
+    set_order(&mut next.order, j, &order.places);
+    next
 }
 
 // A list of fewer than 32 with j behind it. Its array has 32 places, so its count is below 32 too.

@@ -2,7 +2,7 @@
 use Prim.Native.Nat.{ℕ, suc, _+_, _*_, _≤_, _<_}
 use mathlib.Core.Path.{_≡_, refl, sym, _∙_, ap, subst}
 use mathlib.Core.Bool.{true, false}
-use mathlib.Core.List.{List, [], _∷_}
+use mathlib.Core.List.{[], _∷_}
 use native.Mathlib.Nat.{lt-of-lt-of-le, le-trans, mul-le-mul-right}
 use native.Mathlib.Omega.{arith}
 use mir.Syntax.{w32}
@@ -10,7 +10,6 @@ use mir.Val.{Fits}
 use lib.Dec.{eqb}
 use borrow.Author.Tests.{eq-eqb}
 use Rattle.laws.specs.Choice.{if_then_else_}
-use Rattle.laws.specs.Range.{tableTo}
 use Rattle.laws.proofs.Choice.{true-not-false, case-bool, and-both}
 use Rattle.laws.proofs.Chain.{link-cases}
 use Rattle.laws.proofs.Count.{count-le-bound}
@@ -18,21 +17,18 @@ use Rattle.charging.proofs.Leads.{leads-inside}
 use Rattle.choice.specs.declared.Choice.{Choice}
 use Rattle.preemption.specs.Preempting.{waitingAt}
 use Rattle.choice.specs.Choosing.{pickedFrom, chosenOn, choiceOf}
-use Rattle.rules.specs.declared.Destination.{Destination}
 use Rattle.rules.specs.declared.State.{State}
-use Rattle.rules.specs.Sizes.{maxDestinations, maxEntries, lastSecond}
+use Rattle.rules.specs.Sizes.{maxEntries, lastSecond}
 use Rattle.rules.specs.State.{at, settingsOf, isPresent, waitingOf, destinationOf}
-use Rattle.rules.specs.Setup.{setupInRange}
 use Rattle.rules.specs.Sound.{busyOn, busyTo, isJobOn}
 use Rattle.rules.specs.SoundFacts.{Sound}
-use Rattle.rules.specs.Windows.{wokenAt, woken}
+use Rattle.rules.specs.Windows.{woken}
 use Rattle.rules.specs.Picking.{finds, nextTransport, currentJob, passedOver, nextPlace, nextEntry}
 use Rattle.rules.specs.Preemption.{preempting, preemptorOf}
 use Rattle.rules.specs.Pick.{handedOut, pickFrom, pickWith, pickOn, picking}
 use Rattle.rules.specs.Refusals.{pickRefusal}
 use Rattle.rules.specs.Calls.{granted, pickingReply, afterPick}
 use Rattle.rules.proofs.Shape.{Shaped}
-use Rattle.rules.proofs.RangeFacts.{in-range-of}
 use Rattle.rules.proofs.Soundness.{sound-facts}
 use Rattle.rules.proofs.EntryFacts.{present-below, waiting-used}
 use Rattle.rules.proofs.Accepted.{pick-accepted}
@@ -45,35 +41,12 @@ use Rattle.rules.proofs.HandedOut.{CanHandOut}
 use Rattle.rules.proofs.KeptPicking.{next-can}
 use Rattle.picking.specs.May.{MayPreempt, MayHandOut}
 
--- the state that the code wakes
-abbrev pub built : State → ℕ → List Destination → State
-built s now ds =
-    record {
-      setup = s .setup;
-      clock = now;
-      ticket = s .ticket;
-      turn = s .turn;
-      destinations = ds;
-      busy = s .busy;
-      queues = s .queues;
-      arrivals = s .arrivals;
-      jobs = s .jobs;
-      entries = s .entries;
-    }
-
--- .. is the rule's
-pub woken-built : (s : State) (now : ℕ) (ds : List Destination) → ds ≡ tableTo (wokenAt (s .destinations) (s .setup) now) maxDestinations
-    → built s now ds
-    ≡ woken s now
-unfolding woken
-woken-built s now ds e = rw e refl
-
 pub fits-clock : (now : ℕ) → now ≤ lastSecond → Fits w32 now
 fits-clock now h = record { fits = omega arith }
 
 -- what an accepted pick starts from
 pub record Ready (s : State) (now : ℕ) : Type 0 where
-  pub setup : setupInRange (s .setup) ≡ true
+  pub came : Sound s
   pub early : now ≤ lastSecond
   pub shaped : Shaped (woken s now)
   pub whole : Sound (woken s now)
@@ -83,7 +56,7 @@ ready s now shaped h =
     let a = pick-accepted s now h in
     let facts = sound-facts s (a .whole) in
     let kept = kept-woken s now shaped facts (a .clock .later) in
-    record { setup = in-range-of (s .setup) (facts .setup); early = a .clock .early; shaped = kept .0; whole = kept .1 }
+    record { came = facts; early = a .clock .early; shaped = kept .0; whole = kept .1 }
 
 -- an entry that waits may be handed out
 may-hand-out : (w : State) (t j place e : ℕ) → Shaped w → Sound w → t < w .setup .transports → isPresent w j ≡ true → CanHandOut w t j place e → MayHandOut w t j place e

@@ -1,13 +1,11 @@
 -- The ways that a pick can end: what the code gives there is the rules' reply.
-use Prim.Native.Nat.{ℕ, _≤_, _<_}
+use Prim.Native.Nat.{ℕ}
 use mathlib.Core.Path.{_≡_, refl, ap}
 use mathlib.Core.Bool.{true, false}
 use mathlib.Core.List.{[]}
-use borrow.Author.Tests.{lt-ltb, le-ltb}
 use Rattle.laws.specs.Choice.{if_then_else_}
 use Rattle.rules.specs.declared.State.{State}
 use Rattle.rules.specs.declared.PickAnswer.{PickAnswer}
-use Rattle.rules.specs.Sizes.{lastSecond}
 use Rattle.rules.specs.Sound.{sound}
 use Rattle.rules.specs.Windows.{woken}
 use Rattle.rules.specs.Refusals.{badClock, pickRefusal}
@@ -22,17 +20,13 @@ module _ (s : State) (now : ℕ) where
   pub pick-unsound : sound s ≡ false → record { says = refused 1; state = s; buffer = [] } ≡ pickReply s now
   pick-unsound h = reply-unsound s (pick now) h
 
-  pub pick-early : sound s ≡ true → now < s .clock → record { says = refused 3; state = s; buffer = [] } ≡ pickReply s now
-  unfolding replyTo pickRefusal badClock unlessRefused if_then_else_
-  pick-early h l = rw (h, lt-ltb now (s .clock) l) refl
+  pub pick-clock : sound s ≡ true → badClock s now ≡ true → record { says = refused 3; state = s; buffer = [] } ≡ pickReply s now
+  unfolding replyTo pickRefusal unlessRefused if_then_else_
+  pick-clock h b = rw (h, b) refl
 
-  pub pick-late : sound s ≡ true → s .clock ≤ now → lastSecond < now → record { says = refused 3; state = s; buffer = [] } ≡ pickReply s now
-  unfolding replyTo pickRefusal badClock unlessRefused if_then_else_
-  pick-late h e l = rw (h, le-ltb now (s .clock) e, lt-ltb lastSecond now l) refl
-
-  pub pick-unrefused : sound s ≡ true → s .clock ≤ now → now ≤ lastSecond → pickRefusal s now ≡ 0
-  unfolding pickRefusal badClock if_then_else_
-  pick-unrefused h e l = rw (h, le-ltb now (s .clock) e, le-ltb lastSecond now l) refl
+  pub pick-unrefused : sound s ≡ true → badClock s now ≡ false → pickRefusal s now ≡ 0
+  unfolding pickRefusal if_then_else_
+  pick-unrefused h b = rw (h, b) refl
 
   pub pick-made : (x : Reply) → pickRefusal s now ≡ 0 → x ≡ afterPick (woken s now) now → x ≡ pickReply s now
   pick-made x e h = reply-accepted s (pick now) x e h

@@ -28,13 +28,7 @@ pub fn pick(s: State, now: u64) -> PickReply
             state: s,
         };
     }
-    if now < (s.clock as u64) {
-        return PickReply {
-            answer: PickAnswer::Refused(3),
-            state: s,
-        };
-    }
-    if 4294967295 < now {
+    if waking::bad_clock(s.clock, now) {
         return PickReply {
             answer: PickAnswer::Refused(3),
             state: s,
@@ -42,11 +36,9 @@ pub fn pick(s: State, now: u64) -> PickReply
     }
     next.clock = now as u32;
     let old = s.destinations;
-    if waking::any_due(old, s.setup.destinations, now) {
-        let u = s.setup;
-        let ds = waking::wake(old, u, now);
-        next.destinations = ds;
-    }
+    let settings = s.setup.settings;
+    let ds = waking::wake(old, &next.setup.home, settings, s.setup.destinations, now);
+    next.destinations = ds;
     let c = choice::choose(next, now, &pairs);
     if !c.found {
         return PickReply {

@@ -22,17 +22,18 @@ use Rattle.rules.specs.declared.Outcome.{Outcome}
 use Rattle.rules.specs.declared.State.{State}
 use Rattle.rules.specs.Sizes.{maxTransports, maxDestinations, maxJobs, maxEntries}
 use Rattle.rules.specs.State.{at, settingsFor, transportOf, healthOf, isLive, zeroDestination, zeroList, listOf, listed, queueOf, jobOf, destinationOf, isPresent, usedOf}
-use Rattle.rules.specs.Setup.{settingsInRange, setupInRange}
-use Rattle.rules.specs.Sound.{sound, busyOn, busyTo}
+use Rattle.rules.specs.Setup.{settingsInRange}
+use Rattle.rules.specs.Sound.{busyOn, busyTo}
 use Rattle.rules.specs.Changed.{onPresent, onDropped, onParent}
 use Rattle.rules.specs.SoundFacts.{LiveSound, EntrySound, Sound}
-use Rattle.rules.specs.Windows.{afterReport, wokenAt, woken}
-use Rattle.rules.specs.Reporting.{oneLessBusy, reportedHealth, dies, isPutOff, putOffEntries, putOffOf, kindAfter, settled, stays, parentAfter, departed, reportedAt, reporting}
+use Rattle.rules.specs.Windows.{afterReport, woken}
+use Rattle.rules.specs.Reporting.{oneLessBusy, reportedHealth, dies, isPutOff, putOffEntries, putOffOf, kindAfter}
+use Rattle.rules.specs.Reporting.{settled, stays, parentAfter, departed, reportedAt, reporting}
 use Rattle.rules.specs.Calls.{Reply, granted, written, reportingReply}
 use Rattle.laws.specs.Choice.{if_then_else_}
 use Rattle.laws.specs.Chain.{firstAlong}
 use Rattle.rules.proofs.Shape.{Shaped, present-length, dropped-length}
-use Rattle.rules.proofs.RangeFacts.{in-range-of, sums-fit-of}
+use Rattle.rules.proofs.RangeFacts.{sums-fit-of}
 use Rattle.rules.proofs.Soundness.{sound-facts}
 use Rattle.rules.proofs.EntryTests.{busy-used}
 use Rattle.rules.proofs.EntryFacts.{present-below, waiting-used}
@@ -45,6 +46,7 @@ use Rattle.rules.proofs.KeptPreempting.{parent-present}
 use Rattle.settling.specs.Settling.{CanPutOff, PutOff}
 use Rattle.leaving.specs.Leaving.{staysAt, adoptedAt}
 use Rattle.reporting.proofs.ReportReplies.{CanReport}
+use Rattle.reporting.proofs.Stayers.{destination-below}
 
 fits-of : (g : Settings) (h : Health) → ((u : Sums) → h ≡ Live u → LiveSound g u) → healthFits g h ≡ true
 unfolding healthFits
@@ -60,12 +62,6 @@ module _ (s : State) (clock e places : ℕ) (shape : Shaped s) (can : CanReport 
   its : EntrySound s e
   its = facts .entries e (can .inside) (busy-used s e (can .busy))
 
-  set-up : setupInRange (s .setup) ≡ true
-  set-up = in-range-of (s .setup) (facts .setup)
-
-  destination-below : destinationOf s e < maxDestinations
-  destination-below = omega (arith, its .destination, facts .setup .destinations)
-
   home : transportOf s (destinationOf s e) < s .setup .transports
   home = facts .setup .home (destinationOf s e) (its .destination)
 
@@ -75,8 +71,8 @@ module _ (s : State) (clock e places : ℕ) (shape : Shaped s) (can : CanReport 
   busy-transport : 1 ≤ at (s .busy .transport) (transportOf s (destinationOf s e))
   unfolding busyOn
   busy-transport =
-      rw (facts .busyTransport (transportOf s (destinationOf s e)) home)
-      (count-pos-of (busyOn s (transportOf s (destinationOf s e))) maxEntries e (can .inside) (and-both (can .busy) (eq-eqb (transportOf s (destinationOf s e)) (transportOf s (destinationOf s e)) refl)))
+      let t = transportOf s (destinationOf s e) in
+      rw (facts .busyTransport t home) (count-pos-of (busyOn s t) maxEntries e (can .inside) (and-both (can .busy) (eq-eqb t t refl)))
 
   busy-destination : 1 ≤ at (s .busy .destination) (destinationOf s e)
   unfolding busyTo
@@ -87,16 +83,14 @@ module _ (s : State) (clock e places : ℕ) (shape : Shaped s) (can : CanReport 
   busy-few : at (s .busy .destination) (destinationOf s e) ≤ 512
   busy-few = rw (facts .busyDestination (destinationOf s e) (its .destination)) (count-le-bound (busyTo s (destinationOf s e)) maxEntries)
 
-  pub step-asks : {ds : List Destination} → ds ≡ tableTo (wokenAt (s .destinations) (s .setup) clock) 32
+  pub step-asks : {ds : List Destination} → ds ≡ woken s clock .destinations
       → (settingsInRange (settingsFor s (destinationOf s e)) ≡ true) × (healthFits (settingsFor s (destinationOf s e)) (getD ds (destinationOf s e) zeroDestination .health) ≡ true)
       × (at (s .busy .destination) (destinationOf s e) ≤ 512) × (clock ≤ 4294967295)
   unfolding woken
-  step-asks was = (
-    facts .setup .settings (transportOf s (destinationOf s e)) home,
-    rw was (fits-of (settingsFor s (destinationOf s e)) (healthOf (woken s clock) (destinationOf s e)) (kept-woken s clock shape facts (can .later) .1 .destinations (destinationOf s e) (its .destination) .live)),
-    busy-few,
-    can .early,
-  )
+  step-asks was =
+      let d = destinationOf s e in
+      let live = kept-woken s clock shape facts (can .later) .1 .destinations d (its .destination) .live in
+      (facts .setup .settings (transportOf s d) home, rw was (fits-of (settingsFor s d) (healthOf (woken s clock) d) live), busy-few, can .early)
 
   pub put-off-asks : (list : List ℕ) → length list ≡ places → CanPutOff (s .entries .kind) (s .entries .job) (s .jobs .dropped) list
   put-off-asks list l = record {
@@ -130,7 +124,7 @@ module _ (s : State) (clock e places : ℕ) (shape : Shaped s) (can : CanReport 
 
 -- all of that, by name
 pub record ReportAsks (s : State) (clock e places : ℕ) : Type 0 where
-  pub setup : setupInRange (s .setup) ≡ true
+  pub whole : Sound s
   pub destination : destinationOf s e < maxDestinations
   pub transport : transportOf s (destinationOf s e) < maxTransports
   pub busyTransport : 1 ≤ at (s .busy .transport) (transportOf s (destinationOf s e))
@@ -142,8 +136,8 @@ pub record ReportAsks (s : State) (clock e places : ℕ) : Type 0 where
 
 pub report-asks : (s : State) (clock e places : ℕ) → Shaped s → CanReport s clock e places → ReportAsks s clock e places
 report-asks s clock e places shape can = record {
-  setup = set-up s clock e places shape can;
-  destination = destination-below s clock e places shape can;
+  whole = facts s clock e places shape can;
+  destination = destination-below s clock e places can;
   transport = transport-below s clock e places shape can;
   busyTransport = busy-transport s clock e places shape can;
   busyDestination = busy-destination s clock e places shape can;
@@ -165,40 +159,42 @@ module _ (s : State) (clock e : ℕ) (outcome : Outcome) (shape : Shaped s) wher
   abbrev Left : State
   Left = settled (woken s clock) e (destinationOf s e) after' died'
 
+  -- the step of the destination from a health
+  abbrev from-health : Health → Health
+  from-health = afterReport (settingsFor s (destinationOf s e)) (at (s .busy .destination) (destinationOf s e)) clock outcome
+
   -- a table of who stays says so of every number
   reads : (λ j. getD (tableTo (stays Left) 32) j false) ≡ stays Left
   unfolding settled woken
   reads = fun-ext λ j. elim (decLt j 32) [
     | yes p ↦ getD-table (stays Left) 32 j false p
-    | no p ↦ List·getD-eq-default (tableTo (stays Left) 32) false {n = j} (omega (arith, length-table (stays Left) 32)) ∙ sym (absent-leaves Left j (List·getD-eq-default (s .jobs .present) false {n = j} (omega (arith, present-length (shape .jobs)))))
+    | no p ↦
+        List·getD-eq-default (tableTo (stays Left) 32) false {n = j} (omega (arith, length-table (stays Left) 32))
+        ∙ sym (absent-leaves Left j (List·getD-eq-default (s .jobs .present) false {n = j} (omega (arith, present-length (shape .jobs)))))
   ]
 
   module _ {list : List ℕ} {ds : List Destination} {after : Health} {live live' : Bool} {kind freed dropped written' : List ℕ} {n : ℕ} {stay : List Bool}
-      {adopted : List ℕ} {queue arrivals : JobList}
-      (woke : ds ≡ tableTo (wokenAt (s .destinations) (s .setup) clock) 32)
-      (step : after ≡ afterReport (settingsFor s (destinationOf s e)) (at (s .busy .destination) (destinationOf s e)) clock outcome (getD ds (destinationOf s e) zeroDestination .health))
+      {adopted counts' links' : List ℕ} {marks' : List Bool} {queue arrivals : JobList}
+      (woke : ds ≡ woken s clock .destinations)
+      (step : after ≡ from-health (getD ds (destinationOf s e) zeroDestination .health))
       (lived : live ≡ isLive (getD ds (destinationOf s e) zeroDestination .health))
       (lives : live' ≡ isLive after)
       (put : PutOff (live && not live') (destinationOf s e) (s .entries .kind) (s .entries .job) (s .entries .destination) (s .jobs .dropped) list kind dropped written' n)
       (free : freed ≡ set kind e 0)
       (stayed : stay ≡ tableTo (staysAt freed (s .entries .job) (s .jobs .present) 512) 32)
       (linked : adopted ≡ tableTo (adoptedAt stay (s .jobs .parent)) 32)
+      (counts : counts' ≡ dropped)
+      (links : links' ≡ adopted)
+      (marks : marks' ≡ stay)
       (queued : queue ≡ listed (keep (λ j. getD stay j false) (queueOf s (transportOf s (destinationOf s e)))))
       (arrived : arrivals ≡ listed (keep (λ j. getD stay j false) (listOf (s .arrivals)))) where
-    ds-is : ds ≡ woken s clock .destinations
-    unfolding woken
-    ds-is = woke
-
     after-is : after ≡ after'
     unfolding woken
-    after-is =
-        step
-        ∙ ap (λ l. afterReport (settingsFor s (destinationOf s e)) (at (s .busy .destination) (destinationOf s e)) clock outcome (getD l (destinationOf s e) zeroDestination .health))
-        ds-is
+    after-is = step ∙ ap (λ l. from-health (getD l (destinationOf s e) zeroDestination .health)) woke
 
     died-is : live && not live' ≡ died'
     unfolding dies
-    died-is = rw (lived, lives, after-is, ds-is) refl
+    died-is = rw (lived, lives, after-is, woke) refl
 
     was : PutOff died' (destinationOf s e) (s .entries .kind) (s .entries .job) (s .entries .destination) (s .jobs .dropped) list kind dropped written' n
     was = subst (λ b. PutOff b (destinationOf s e) (s .entries .kind) (s .entries .job) (s .entries .destination) (s .jobs .dropped) list kind dropped written' n) died-is put
@@ -247,10 +243,10 @@ module _ (s : State) (clock e : ℕ) (outcome : Outcome) (shape : Shaped s) wher
         busy = oneLessBusy (s .busy) (transportOf s (destinationOf s e)) (destinationOf s e);
         queues = set (s .queues) (transportOf s (destinationOf s e)) queue;
         arrivals = arrivals;
-        jobs = onPresent (λ l. stay) (onParent (λ l. adopted) (onDropped (λ l. dropped) (s .jobs)));
+        jobs = onPresent (λ l. marks') (onParent (λ l. links') (onDropped (λ l. counts') (s .jobs)));
         entries = record { kind = freed; job = s .entries .job; destination = s .entries .destination; ticket = s .entries .ticket };
       };
       buffer = written';
     }) (reportingReply (reporting (woken s clock) clock e (destinationOf s e) outcome) list)
     unfolding reportingReply reporting reportedAt departed settled woken
-    report-is = rw (number-is, list-is, ds-is, after-is, queue-is, arrivals-is, dropped-is, stay-is, adopted-is, kind-is) refl
+    report-is = rw (counts, links, marks, number-is, list-is, woke, after-is, queue-is, arrivals-is, dropped-is, stay-is, adopted-is, kind-is) refl

@@ -29,7 +29,7 @@ module _ (s : State) (clock e places : ℕ) (can : CanReport s clock e places) w
   facts : Sound s
   facts = sound-facts s (can .whole)
 
-  destination-below : destinationOf s e < maxDestinations
+  pub destination-below : destinationOf s e < maxDestinations
   destination-below = omega (arith, facts .entries e (can .inside) (busy-used s e (can .busy)) .destination, facts .setup .destinations)
 
   module _ {died : Bool} {n : ℕ} {list kind freed dropped list' : List ℕ}
@@ -101,7 +101,8 @@ module _ (s : State) (clock e places : ℕ) (can : CanReport s clock e places) w
           let far = not-true (eqb (x .0) (destinationOf s e)) (and-right (ltb 0 (at pairs (32 * j + x .0))) (not (eqb (x .0) (destinationOf s e))) (x .2)) in
           let w = count-witness (waiting-for j (x .0)) maxEntries (subst (λ n. 0 < n) (counted j (x .0) l (x .1)) some) in
           let waits = and-left (eqb (at (s .entries .kind) (w .0)) 1) (eqb (32 * jobOf s (w .0) + destinationOf s (w .0)) (32 * j + x .0)) (w .2) in
-          let place = eqb-true (32 * jobOf s (w .0) + destinationOf s (w .0)) (32 * j + x .0) (and-right (eqb (at (s .entries .kind) (w .0)) 1) (eqb (32 * jobOf s (w .0) + destinationOf s (w .0)) (32 * j + x .0)) (w .2)) in
+          let same = and-right (eqb (at (s .entries .kind) (w .0)) 1) (eqb (32 * jobOf s (w .0) + destinationOf s (w .0)) (32 * j + x .0)) (w .2) in
+          let place = eqb-true (32 * jobOf s (w .0) + destinationOf s (w .0)) (32 * j + x .0) same in
           let used = waiting-used s (w .0) waits in
           let to : destinationOf s (w .0) < maxDestinations = omega (arith, facts .entries (w .0) (w .1) used .destination, facts .setup .destinations) in
           let own : jobOf s (w .0) ≡ j = omega (arith, place, to, x .1) in

@@ -8,6 +8,26 @@ ghost use mathlib.Core.Path.{_≡_};
 ghost use Rattle.rules.specs.Calls.{reportReply};
 ghost use Rattle.rules.specs.Gave.{reportGave};
 
+// A column of the jobs, written anew in the working copy.
+
+fn put_counts(column: &mut [u16; 32], by: [u16; 32])
+    ensures { λ _. ⌜ now (column .exit) ≡ by ⌝ }
+{
+    *column = by;
+}
+
+fn put_links(column: &mut [u8; 32], by: [u8; 32])
+    ensures { λ _. ⌜ now (column .exit) ≡ by ⌝ }
+{
+    *column = by;
+}
+
+fn put_marks(column: &mut [bool; 32], by: [bool; 32])
+    ensures { λ _. ⌜ now (column .exit) ≡ by ⌝ }
+{
+    *column = by;
+}
+
 // The outcome of a delivery, by entry and ticket. Entries that it puts off go to the lent list; places past them stay.
 pub fn report(
     s: State,
@@ -27,11 +47,15 @@ pub fn report(
             state: s,
         };
     }
+    if waking::bad_clock(s.clock, now) {
+        return ReportReply {
+            answer: ReportAnswer::Refused(3),
+            state: s,
+        };
+    }
     let k = settling::refusal(
-        s.clock,
         &next.entries.kind,
         &next.entries.ticket,
-        now,
         entry,
         ticket,
         list.len(),
@@ -45,19 +69,18 @@ pub fn report(
     next.clock = now as u32;
 
     // the destination's step
-    let setup = s.setup;
-    let mut ds = s.destinations;
-    if waking::any_due(ds, setup.destinations, now) {
-        ds = waking::wake(ds, setup, now);
-    }
+    let settings = s.setup.settings;
+    let old = s.destinations;
+    let mut ds = waking::wake(old, &next.setup.home, settings, s.setup.destinations, now);
     let e = entry as usize;
     let job = s.entries.job;
     let destination = s.entries.destination;
     let to = destination[e];
     let of = job[e];
     let d = to as usize;
-    let t = setup.home[d] as usize;
-    let g = setup.settings[t];
+    let home = s.setup.home;
+    let t = home[d] as usize;
+    let g = settings[t];
     let x = ds[d];
     let before = x.health;
     let mut busy = s.busy;
@@ -96,11 +119,9 @@ pub fn report(
         of,
     );
     let adopted = leaving::adopt(&stays, &parent);
-    let mut jobs = next.jobs;
-    jobs.dropped = dropped;
-    jobs.parent = adopted;
-    jobs.present = stays;
-    next.jobs = jobs;
+    put_counts(&mut next.jobs.dropped, dropped);
+    put_links(&mut next.jobs.parent, adopted);
+    put_marks(&mut next.jobs.present, stays);
     let q = next.queues[t];
     let queue = lists::keep(q, &stays);
     next.queues[t] = queue;

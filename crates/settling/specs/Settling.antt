@@ -2,16 +2,14 @@
 -- these columns.
 use Prim.Native.Nat.{ℕ, _+_, _≤_, _<_}
 use mathlib.Core.Path.{_≡_}
-use mathlib.Core.Bool.{Bool, true, _&&_}
+use mathlib.Core.Bool.{Bool, not, _&&_}
 use mathlib.Core.List.{List}
 use lib.ListN.{length}
-use lib.Dec.{eqb}
+use lib.Dec.{eqb, ltb}
 use Rattle.laws.specs.Choice.{if_then_else_}
 use Rattle.laws.specs.Range.{countTo, chosenTo, tableTo}
-use Rattle.rules.specs.declared.State.{State}
 use Rattle.rules.specs.Sizes.{maxJobs, maxEntries, maxLength}
 use Rattle.rules.specs.State.{at}
-use Rattle.rules.specs.Sound.{sound}
 use Rattle.rules.specs.Calls.{written}
 
 -- the waiting entries of d, where it died
@@ -43,9 +41,9 @@ pub record PutOff (died : Bool) (d : ℕ) (kind job destination dropped list : L
   pub listed : list' ≡ written (chosenTo (putOffAt kind destination died d) maxEntries) list
   pub number : n ≡ length (chosenTo (putOffAt kind destination died d) maxEntries)
 
--- A sound state with this clock and these columns of its entries.
-pub record HasColumns (s : State) (last : ℕ) (kind tickets : List ℕ) : Type 0 where
-  pub whole : sound s ≡ true
-  pub clock : s .clock ≡ last
-  pub kinds : s .entries .kind ≡ kind
-  pub issued : s .entries .ticket ≡ tickets
+-- `reportRefusal` once the clock is good, over the columns that it reads: 9 where the entry is not busy with this ticket, 10 where the list is too short.
+unfoldable pub entryRefusal : List ℕ → List ℕ → ℕ → ℕ → ℕ → ℕ
+entryRefusal kind tickets e ticket places =
+    if not (ltb e maxEntries && eqb (at kind e) 2 && eqb (at tickets e) ticket) then 9
+    else if ltb places maxEntries then 10
+    else 0

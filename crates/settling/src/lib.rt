@@ -6,16 +6,12 @@ use rules::Outcome;
 use rules::Settings;
 ghost use mathlib.Core.Path.{_≡_};
 ghost use mathlib.Core.Bool.{true};
-ghost use mathlib.Core.List.{List};
-ghost use Prim.Native.Nat.{ℕ, _≤_};
-ghost use lib.ListN.{length};
-ghost use Rattle.rules.specs.declared.State.{State};
+ghost use Prim.Native.Nat.{_≤_};
 ghost use Rattle.rules.specs.State.{isLive};
 ghost use Rattle.rules.specs.Setup.{settingsInRange};
-ghost use Rattle.rules.specs.Refusals.{reportRefusal};
-ghost use Rattle.window.specs.Fits.{healthFits};
 ghost use Rattle.rules.specs.Windows.{afterReport};
-ghost use Rattle.settling.specs.Settling.{CanPutOff, PutOff, HasColumns};
+ghost use Rattle.window.specs.Fits.{healthFits};
+ghost use Rattle.settling.specs.Settling.{CanPutOff, PutOff, entryRefusal};
 
 // The destination after this outcome; busy still counts this delivery.
 pub fn step(g: Settings, busy: u64, now: u64, h: Health, outcome: Outcome) -> Health
@@ -68,22 +64,16 @@ pub fn put_off<'a>(
     m as u16
 }
 
-// The refusal of a report to a sound state with this clock and these columns, 0 for none. There is such a state.
+// The refusal of a report to a sound state whose clock is good, by the columns that it reads; 0 for none.
 pub fn refusal<'a>(
-    last: u32,
     kind: &'a [u8; 512],
     tickets: &'a [u32; 512],
-    clock: u64,
     entry: u64,
     ticket: u64,
     places: usize,
 ) -> u8
-    requires { ⌜ ((s : State) × HasColumns s last (now kind) (now tickets)) ⌝ }
-    ensures { λ r. ⌜ ((s : State) → HasColumns s last (now (kind .entry)) (now (tickets .entry)) → (list : List ℕ) → length list ≡ places → r ≡ reportRefusal s clock entry ticket list) ⌝ }
+    ensures { λ r. ⌜ r ≡ entryRefusal (now (kind .entry)) (now (tickets .entry)) entry ticket places ⌝ }
 {
-    if (clock < last as u64) | (4294967295 < clock) {
-        return 3;
-    }
     if 512 <= entry {
         return 9; // there is no such entry
     }

@@ -1,13 +1,13 @@
 -- All before i are the transport's. Assumes nothing.
 use Prim.Native.Nat.{ℕ, _≤_, _<_, _-_}
-use mathlib.Core.Bool.{true, false}
+use mathlib.Core.Bool.{true}
 use mathlib.Core.Path.{_≡_, sym}
 use native.Mathlib.Omega.{arith}
 use lib.ListN.{length}
 use lib.Dec.{ltb}
 use borrow.Author.Tests.{lt-ltb, le-ltb, eq-eqb, ne-eqb}
 use borrow.Author.Count.{below-more}
-use Rattle.laws.proofs.Choice.{and-both, and-left-false, and-right-false, false-of}
+use Rattle.laws.proofs.Choice.{and-both, and-left-false, and-right-false}
 use Rattle.laws.proofs.Sequence.{every-from-getD, every-false-of}
 use Rattle.rules.specs.State.{at}
 use Rattle.admission.specs.Admission.{onTransport}

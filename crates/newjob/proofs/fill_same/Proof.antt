@@ -6,7 +6,7 @@ use native.Mathlib.Omega.{arith}
 use Rattle.laws.specs.Range.{foldTo}
 use Rattle.rules.specs.State.{at}
 use Rattle.rules.specs.Taking.{filled}
-use Rattle.newjob.proofs.Passes.{filled-more}
+use Rattle.newjob.proofs.Filling.{filled-more}
 use Rattle.newjob.proofs.fill_same.Statement.{statement}
 use Rattle.newjob.proofs.fill_same.Tie as tie
 

@@ -1,16 +1,16 @@
 -- The order of the first i, and which they are. Assumes nothing.
 use borrow.Author.Needs.{needs}
 use Prim.Native.Nat.{_≤_, _-_}
-use mathlib.Core.Bool.{true, false}
+use mathlib.Core.Bool.{false}
 use mathlib.Core.Path.{_≡_}
 use mathlib.Core.Logic.{⊎-elim}
 use native.Mathlib.Omega.{arith}
-use lib.ListN.{length, getD}
+use lib.ListN.{getD}
 use borrow.Author.Tests.{not-true, not-false}
-use Rattle.laws.specs.Sequence.{padded, holds}
+use Rattle.laws.specs.Sequence.{padded}
 use Rattle.laws.proofs.Firsts.{firsts-length}
 use Rattle.rules.specs.State.{at}
-use Rattle.newjob.proofs.Passes.{Seen, seen-none, seen-room, seen-new, seen-again}
+use Rattle.newjob.proofs.Ordering.{Seen, seen-none, seen-room, seen-new, seen-again}
 use Rattle.newjob.proofs.firsts.Statement.{statement}
 use Rattle.newjob.proofs.firsts.Tie as tie
 

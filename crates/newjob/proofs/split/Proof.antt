@@ -7,7 +7,7 @@ use native.Mathlib.Omega.{arith}
 use lib.ListN.{length}
 use Rattle.laws.specs.Range.{chosenTo}
 use Rattle.laws.specs.Sequence.{padded, keep}
-use Rattle.newjob.proofs.Passes.{Parting, parting-found, parting-count, parting-length, parting-dead, parting-live, parted}
+use Rattle.newjob.proofs.Parting.{Parting, parting-found, parting-count, parting-length, parting-dead, parting-live, parted}
 use Rattle.newjob.proofs.split.Statement.{statement}
 use Rattle.newjob.proofs.split.Tie as tie
 

@@ -1,10 +1,10 @@
--- The state's shape is in its type. What each step asks follows from soundness and from what was chosen; where the ways of waking and of the
--- preemption meet, `awake` and `from` say which state it is. Assumes nothing.
-use Prim.Native.Nat.{ℕ, _≤_}
+-- The state's shape is in its type. What each step asks follows from soundness and from what was chosen; where the ways of the preemption meet, `from`
+-- says which state it is. Assumes nothing.
+use Prim.Native.Nat.{ℕ}
 use mathlib.Core.Path.{_≡_, refl, sym, _∙_, ap, subst}
 use mathlib.Core.Logic.{_⊎_, inl, inr, ⊎-elim}
 use mathlib.Core.Bool.{true}
-use mathlib.Core.List.{List, [], _∷_}
+use mathlib.Core.List.{[], _∷_}
 use native.Mathlib.Nat.{le-refl}
 use native.Mathlib.Omega.{arith}
 use borrow.Author.Needs.{needs}
@@ -14,135 +14,171 @@ use Rattle.rules.specs.declared.State.{State}
 use Rattle.rules.specs.declared.PickAnswer.{PickAnswer}
 use Rattle.rules.specs.declared.PickAnswer.the-variants
 use Rattle.rules.specs.State.{listOf, listed}
+use Rattle.rules.specs.Sound.{sound}
 use Rattle.rules.specs.Windows.{woken}
 use Rattle.rules.specs.Preemption.{preempting}
 use Rattle.rules.specs.Pick.{handedOut}
 use Rattle.rules.specs.Refusals.{pickRefusal}
-use Rattle.rules.specs.Calls.{granted, afterPick}
+use Rattle.rules.specs.Calls.{Says, granted, afterPick}
 use Rattle.rules.proofs.Shape.{Shaped}
-use Rattle.waking.proofs.WakingLaws.{none-due}
+use Rattle.waking.proofs.WakingLaws.{clock-is, wakes, built, woken-built}
 use Rattle.counting.specs.Counting.{Paired}
-use Rattle.columns.proofs.Shapes.{shaped}
+use Rattle.columns.proofs.Shapes.{shaped, same-list}
 use Rattle.choice.specs.declared.Choice.{Choice}
 use Rattle.picking.specs.May.{MayPreempt, MayHandOut}
-use Rattle.columns.proofs.Shapes.{same-list}
 use Rattle.picking.proofs.WriteLaws.{preempt-is, hand-out-is}
-use Rattle.picking.proofs.PickLaws.{Ready, ready, fits-clock, woken-built, own-sound, gives-nothing, may-hand-plain, gives-plain, may-move, may-hand-moved, gives-moved}
-use Rattle.picking.proofs.PickReplies.{pick-unsound, pick-early, pick-late, pick-unrefused, pick-made, with-found}
-use Rattle.rules.proofs.Soundness.{few-destinations}
+use Rattle.picking.proofs.PickLaws.{Ready, ready, fits-clock, own-sound, gives-nothing, may-hand-plain, gives-plain, may-move, may-hand-moved, gives-moved}
+use Rattle.picking.proofs.PickReplies.{pick-unsound, pick-clock, pick-unrefused, pick-made, with-found}
 use Rattle.picking.proofs.pick.Statement.{statement}
 use Rattle.picking.proofs.pick.Tie as tie
 
--- the arguments, once the refusals have passed
+-- Before the clock is tested.
 
-abbrev begun : tie.Else3 → tie.Start
-begun c = c .before .before .before .before .before .before
+abbrev opened : tie.After-sound-with → tie.Start
+opened c = c .before .before
 
-abbrev state : tie.Else3 → State
+-- the state that came is sound
+whole : (c : tie.Else1) → sound (opened (c .before) .args .s) ≡ true
+whole c = sym (c .before .sound-with .ensures .0) ∙ not-false _ (c .if1 .left)
+
+-- The arguments, once the refusals have passed.
+
+abbrev tested : tie.Else2 → tie.Else1
+tested c = c .before .before
+
+abbrev begun : tie.Else2 → tie.Start
+begun c = opened (tested c .before)
+
+abbrev state : tie.Else2 → State
 state c = begun c .args .s
 
-abbrev time : tie.Else3 → ℕ
+abbrev time : tie.Else2 → ℕ
 time c = begun c .args .now
 
 -- a state that came in has its shape
-shape : (c : tie.Else3) → Shaped (state c)
+shape : (c : tie.Else2) → Shaped (state c)
 shape c = shaped (state c) (begun c .good .0)
 
-unrefused : (c : tie.Else3) → pickRefusal (state c) (time c) ≡ 0
-unrefused c = pick-unrefused (state c) (time c) (sym (c .before .before .before .before .sound-with .ensures .0) ∙ not-false _ (c .before .before .before .if1 .left)) (c .before .if2 .left) (c .if3 .left)
+unrefused : (c : tie.Else2) → pickRefusal (state c) (time c) ≡ 0
+unrefused c = pick-unrefused (state c) (time c) (whole (tested c)) (sym (clock-is (state c) (time c) _ (c .before .bad-clock .ensures)) ∙ c .if2 .left)
 
-start : (c : tie.Else3) → Ready (state c) (time c)
+start : (c : tie.Else2) → Ready (state c) (time c)
 start c = ready (state c) (time c) (shape c) (unrefused c)
 
--- where the ways of waking meet: the woken state
+-- The state after waking.
 
-abbrev passed : tie.Joined4 → tie.Else3
-passed c = c .before .before .before
+abbrev passed : tie.After-wake → tie.Else2
+passed c = c .before .before .before .before .before
 
-abbrev woke : tie.Joined4 → State
-woke c = c .if4 .next
+abbrev woke : tie.After-wake → State
+woke c = built (state (passed c)) (time (passed c)) (c .wake .result)
 
-awake : (c : tie.Joined4) → woke c ≡ woken (state (passed c)) (time (passed c))
-awake c =
-    ⊎-elim
-    (λ a. a .3 ∙ woken-built (state (passed c)) (time (passed c)) (a .2 .result) (a .2 .ensures))
-    (λ b. b .1 ∙ woken-built (state (passed c)) (time (passed c)) (state (passed c) .destinations) (none-due (state (passed c) .destinations) (state (passed c) .setup) (time (passed c)) (shape (passed c) .destinations) (sym (c .before .any-due .ensures) ∙ b .0 .left)))
-    (c .if4 .came)
+awake : (c : tie.After-wake) → woke c ≡ woken (state (passed c)) (time (passed c))
+awake c = woken-built (state (passed c)) (time (passed c)) (c .wake .result) (c .wake .ensures)
 
--- the entries are those of the state that came, so the table is theirs
-own-pairs : (s : State) (now : ℕ) {w : State} {pairs : List ℕ} → w ≡ woken s now → Paired (s .entries .kind) (s .entries .job) (s .entries .destination) pairs
-    → Paired (w .entries .kind) (w .entries .job) (w .entries .destination) pairs
-unfolding woken
-own-pairs s now {pairs = pairs} e p = subst (λ (w : State). Paired (w .entries .kind) (w .entries .job) (w .entries .destination) pairs) (sym e) p
+-- the table of what waits is that of its entries
+paired : (c : tie.After-wake) → Paired (woke c .entries .kind) (woke c .entries .job) (woke c .entries .destination) (tested (passed c) .before .sound-with .last .1 .0)
+paired c = tested (passed c) .before .sound-with .ensures .1 .counted (not-false _ (tested (passed c) .if1 .left))
 
-ticket-kept : (c : tie.Joined4) → state (passed c) .ticket ≡ woke c .ticket
-unfolding woken
-ticket-kept c = sym (ap (λ (w : State). w .ticket) (awake c))
+-- What was chosen.
 
--- what was chosen
-
-abbrev chose : tie.Else5 → tie.After-choose
+abbrev chose : tie.Else3 → tie.After-choose
 chose c = c .before .before
 
-abbrev choice : tie.Else5 → Choice
+abbrev choice : tie.Else3 → Choice
 choice c = chose c .choose .result
 
-abbrev at-waking : tie.Else5 → tie.Joined4
+abbrev at-waking : tie.Else3 → tie.After-wake
 at-waking c = chose c .before .before
 
-abbrev at-start : tie.Else5 → tie.Else3
+abbrev at-start : tie.Else3 → tie.Else2
 at-start c = passed (at-waking c)
 
-found : (c : tie.Else5) → choice c .found ≡ true
-found c = not-false _ (c .if5 .left)
+found : (c : tie.Else3) → choice c .found ≡ true
+found c = not-false _ (c .if3 .left)
 
-pays : (c : tie.Else5) → (choice c .preemptor ≡ 0 → ⊥) → MayPreempt (woke (at-waking c)) (choice c .transport) (choice c .job) (choice c .current) (choice c .waiting)
-pays c h = may-move (state (at-start c)) (time (at-start c)) (start (at-start c)) _ (awake (at-waking c)) (choice c) (chose c .choose .ensures) (found c) h
+-- what of it is handed out, from a state
+abbrev handed : tie.Else3 → State → State
+handed c w = handedOut w (choice c .transport) (choice c .job) (choice c .place) (choice c .entry)
 
-abbrev if-found : tie.Then6 → tie.Else5
+abbrev MayHand : tie.Else3 → State → Type 0
+MayHand c w = MayHandOut w (choice c .transport) (choice c .job) (choice c .place) (choice c .entry)
+
+abbrev answered : tie.Else3 → ℕ → Says
+answered c ticket = granted (choice c .job ∷ choice c .entry ∷ ticket ∷ choice c .passed ∷ [])
+
+-- what the rules give
+abbrev Gives : tie.Else3 → State → Type 0
+Gives c out = record { says = answered c (woke (at-waking c) .ticket); state = out; buffer = [] } ≡ afterPick (woken (state (at-start c)) (time (at-start c))) (time (at-start c))
+
+-- the state after the preemption
+abbrev moved : tie.Else3 → State
+moved c = preempting (woke (at-waking c)) (choice c .transport) (choice c .job) (choice c .current) (choice c .waiting)
+
+module _ (c : tie.Else3) where
+  pays : (choice c .preemptor ≡ 0 → ⊥) → MayPreempt (woke (at-waking c)) (choice c .transport) (choice c .job) (choice c .current) (choice c .waiting)
+  pays = may-move (state (at-start c)) (time (at-start c)) (start (at-start c)) _ (awake (at-waking c)) (choice c) (chose c .choose .ensures) (found c)
+
+  may-plain : choice c .preemptor ≡ 0 → MayHand c (woke (at-waking c))
+  may-plain = may-hand-plain (state (at-start c)) (time (at-start c)) (start (at-start c)) _ (awake (at-waking c)) (choice c) (chose c .choose .ensures) (found c)
+
+  may-moved : (m : State) → (choice c .preemptor ≡ 0 → ⊥) → m ≡ moved c → MayHand c m
+  may-moved = may-hand-moved (state (at-start c)) (time (at-start c)) (start (at-start c)) _ (awake (at-waking c)) (choice c) (chose c .choose .ensures) (found c)
+
+  plain-gives : (out : State) → choice c .preemptor ≡ 0 → out ≡ handed c (woke (at-waking c)) → Gives c out
+  plain-gives = gives-plain (state (at-start c)) (time (at-start c)) (start (at-start c)) _ (awake (at-waking c)) (choice c) (chose c .choose .ensures) (found c)
+
+  moved-gives : (m out : State) → (choice c .preemptor ≡ 0 → ⊥) → m ≡ moved c → out ≡ handed c m → Gives c out
+  moved-gives = gives-moved (state (at-start c)) (time (at-start c)) (start (at-start c)) _ (awake (at-waking c)) (choice c) (chose c .choose .ensures) (found c)
+
+-- The preemption.
+
+abbrev if-found : tie.Then4 → tie.Else3
 if-found c = c .before .before .before .before
 
-may-pay : (c : tie.Then6) → MayPreempt (woke (at-waking (if-found c))) (choice (if-found c) .transport) (choice (if-found c) .job) (choice (if-found c) .current) (choice (if-found c) .waiting)
-may-pay c = pays (if-found c) (c .if6 .taken)
+abbrev lane : tie.Then4 → ℕ
+lane c = choice (if-found c) .transport
 
--- where the ways of the preemption meet: the woken state, or that after a preemption
+may-pay : (c : tie.Then4) → MayPreempt (woke (at-waking (if-found c))) (lane c) (choice (if-found c) .job) (choice (if-found c) .current) (choice (if-found c) .waiting)
+may-pay c = pays (if-found c) (c .if4 .taken)
 
-abbrev met : tie.Joined6 → tie.Else5
+-- Where its ways meet: the woken state, or that after the preemption.
+
+abbrev met : tie.Joined4 → tie.Else3
 met c = c .before .before .before .before
 
-from : (c : tie.Joined6) → ((choice (met c) .preemptor ≡ 0) × (c .if6 .next ≡ woke (at-waking (met c))))
-    ⊎ ((choice (met c) .preemptor ≡ 0 → ⊥) × (c .if6 .next ≡ preempting (woke (at-waking (met c))) (choice (met c) .transport) (choice (met c) .job) (choice (met c) .current) (choice (met c) .waiting)))
+abbrev From : tie.Else3 → State → Type 0
+From c m = ((choice c .preemptor ≡ 0) × (m ≡ woke (at-waking c))) ⊎ ((choice c .preemptor ≡ 0 → ⊥) × (m ≡ moved c))
+
+from : (c : tie.Joined4) → From (met c) (c .if4 .next)
 from c =
+    let x = choice (met c) in
+    let w = woke (at-waking (met c)) in
     ⊎-elim
-    (λ a. inr (
+    (λ a.
+    let p = pays (met c) (a .0 .taken) in
+    let q = ap (λ q. listed (moveBefore (x .job) (x .current) (listOf q))) (same-list w (x .transport) (p .lists) (p .lane)) in
+    inr (
       a .0 .taken,
       a .15
-          ∙ preempt-is (woke (at-waking (met c))) (choice (met c) .transport) (choice (met c) .job) (choice (met c) .current) (choice (met c) .waiting) (a .3 .result) _ _ _ _
-          (a .3 .ensures ∙ ap (λ q. listed (moveBefore (choice (met c) .job) (choice (met c) .current) (listOf q))) (same-list (woke (at-waking (met c))) (choice (met c) .transport) (pays (met c) (a .0 .taken) .lists) (pays (met c) (a .0 .taken) .lane)))
-          (a .7 .ensures) (a .9 .ensures) (a .12 .ensures) (a .14 .ensures),
+          ∙ preempt-is w (x .transport) (x .job) (x .current) (x .waiting) (a .3 .result) _ _ _ _ (a .3 .ensures ∙ q) (a .7 .ensures) (a .9 .ensures) (a .12 .ensures) (a .14 .ensures),
     ))
     (λ b. inl (b .0 .left, b .1))
-    (c .if6 .came)
+    (c .if4 .came)
 
-may-hand : (c : tie.Joined6) → MayHandOut (c .if6 .next) (choice (met c) .transport) (choice (met c) .job) (choice (met c) .place) (choice (met c) .entry)
+may-hand : (c : tie.Joined4) → MayHand (met c) (c .if4 .next)
 may-hand c =
     ⊎-elim
-    (λ a. subst (λ m. MayHandOut m (choice (met c) .transport) (choice (met c) .job) (choice (met c) .place) (choice (met c) .entry)) (sym (a .1)) (may-hand-plain (state (at-start (met c))) (time (at-start (met c))) (start (at-start (met c))) _ (awake (at-waking (met c))) (choice (met c)) (chose (met c) .choose .ensures) (found (met c)) (a .0)))
-    (λ a. may-hand-moved (state (at-start (met c))) (time (at-start (met c))) (start (at-start (met c))) _ (awake (at-waking (met c))) (choice (met c)) (chose (met c) .choose .ensures) (found (met c)) (c .if6 .next) (a .0) (a .1))
+    (λ a. subst (MayHand (met c)) (sym (a .1)) (may-plain (met c) (a .0)))
+    (λ a. may-moved (met c) (c .if4 .next) (a .0) (a .1))
     (from c)
 
 -- what is given once the entry is handed out
-given : (c : tie.Joined6) (out : State) → out ≡ handedOut (c .if6 .next) (choice (met c) .transport) (choice (met c) .job) (choice (met c) .place) (choice (met c) .entry)
-    → record {
-      says = granted (choice (met c) .job ∷ choice (met c) .entry ∷ state (at-start (met c)) .ticket ∷ choice (met c) .passed ∷ []);
-      state = out;
-      buffer = [];
-    } ≡ afterPick (woken (state (at-start (met c))) (time (at-start (met c)))) (time (at-start (met c)))
+given : (c : tie.Joined4) (out : State) → out ≡ handed (met c) (c .if4 .next) → Gives (met c) out
 given c out h =
-    ap (λ t. record { says = granted (choice (met c) .job ∷ choice (met c) .entry ∷ t ∷ choice (met c) .passed ∷ []); state = out; buffer = [] }) (ticket-kept (at-waking (met c)))
-    ∙ ⊎-elim
-    (λ a. gives-plain (state (at-start (met c))) (time (at-start (met c))) (start (at-start (met c))) _ (awake (at-waking (met c))) (choice (met c)) (chose (met c) .choose .ensures) (found (met c)) out (a .0) (h ∙ ap (λ m. handedOut m (choice (met c) .transport) (choice (met c) .job) (choice (met c) .place) (choice (met c) .entry)) (a .1)))
-    (λ a. gives-moved (state (at-start (met c))) (time (at-start (met c))) (start (at-start (met c))) _ (awake (at-waking (met c))) (choice (met c)) (chose (met c) .choose .ensures) (found (met c)) (c .if6 .next) out (a .0) (a .1) h)
+    ⊎-elim
+    (λ a. plain-gives (met c) out (a .0) (h ∙ ap (handed (met c)) (a .1)))
+    (λ a. moved-gives (met c) (c .if4 .next) out (a .0) (a .1) h)
     (from c)
 
 sound-with-requires : tie.Need-sound-with-requires
@@ -150,48 +186,36 @@ sound-with-requires c κs = refl
 
 returns : tie.Need-returns
 returns c =
-    with-found (c .before .before .before .args .s) (c .before .before .before .args .now) (PickAnswer.Refused 1) _ (shaped (c .before .before .before .args .s) (c .before .before .before .good .0))
-    (pick-unsound (c .before .before .before .args .s) (c .before .before .before .args .now) (sym (c .before .sound-with .ensures .0) ∙ not-true _ (c .if1 .taken)))
+    let a = opened (c .before) .args in
+    let e = pick-unsound (a .s) (a .now) (sym (c .before .sound-with .ensures .0) ∙ not-true _ (c .if1 .taken)) in
+    with-found (a .s) (a .now) (PickAnswer.Refused 1) _ (shaped (a .s) (opened (c .before) .good .0)) e
 
-cast-if2 : tie.Need-cast-if2
-cast-if2 c = search needs
+bad-clock-requires : tie.Need-bad-clock-requires
+bad-clock-requires c κs = tt
 
 returns-2 : tie.Need-returns-2
 returns-2 c =
-    with-found (c .before .before .before .before .before .args .s) (c .before .before .before .before .before .args .now) (PickAnswer.Refused 3) _ (shaped (c .before .before .before .before .before .args .s) (c .before .before .before .before .before .good .0))
-    (pick-early (c .before .before .before .before .before .args .s) (c .before .before .before .before .before .args .now) (sym (c .before .before .before .sound-with .ensures .0) ∙ not-false _ (c .before .before .if1 .left)) (c .if2 .taken))
-
-returns-3 : tie.Need-returns-3
-returns-3 c =
-    with-found (c .before .before .before .before .before .before .args .s) (c .before .before .before .before .before .before .args .now) (PickAnswer.Refused 3) _ (shaped (c .before .before .before .before .before .before .args .s) (c .before .before .before .before .before .before .good .0))
-    (pick-late (c .before .before .before .before .before .before .args .s) (c .before .before .before .before .before .before .args .now) (sym (c .before .before .before .before .sound-with .ensures .0) ∙ not-false _ (c .before .before .before .if1 .left)) (c .before .if2 .left) (c .if3 .taken))
+    let o = opened (c .before .before .before) in
+    let bad = sym (clock-is (o .args .s) (o .args .now) _ (c .before .bad-clock .ensures)) ∙ c .if2 .taken in
+    with-found (o .args .s) (o .args .now) (PickAnswer.Refused 3) _ (shaped (o .args .s) (o .good .0)) (pick-clock (o .args .s) (o .args .now) (whole (c .before .before)) bad)
 
 cast-next : tie.Need-cast-next
 cast-next c = fits-clock (time c) (start c .early)
 
-any-due-requires : tie.Need-any-due-requires
-any-due-requires c κs = few-destinations (state (c .before)) (sym (c .before .before .before .before .before .sound-with .ensures .0) ∙ not-false _ (c .before .before .before .before .if1 .left))
-
 wake-requires : tie.Need-wake-requires
-wake-requires c κs = start (c .before .before .before .before) .setup
+wake-requires c κs = wakes (state (c .before .before .before .before)) (time (c .before .before .before .before)) (start (c .before .before .before .before) .came)
 
 choose-requires : tie.Need-choose-requires
-unfolding woken
-choose-requires c κs = (
-  own-sound (state (c .before .before .before .before)) (time (c .before .before .before .before)) (start (c .before .before .before .before)) _ (awake (c .before)),
-  subst (λ (w : State). w .clock ≤ time (c .before .before .before .before)) (sym (awake (c .before))) (le-refl (time (c .before .before .before .before))),
-  start (c .before .before .before .before) .early,
-  own-pairs (state (passed (c .before))) (time (passed (c .before))) (awake (c .before)) (c .before .before .before .before .before .before .before .before .sound-with .ensures .1 .counted (not-false _ (c .before .before .before .before .before .before .before .if1 .left))),
-)
+choose-requires c κs =
+    let p = passed (c .before) in
+    (own-sound (state p) (time p) (start p) _ (awake (c .before)), le-refl (time p), start p .early, paired (c .before))
 
-abbrev at-none : tie.Then5 → tie.Else3
-at-none c = c .before .before .before .before .before .before .before
-
-returns-4 : tie.Need-returns-4
-returns-4 c =
-    with-found (state (at-none c)) (time (at-none c)) PickAnswer.Nothing _ (shape (at-none c))
-    (pick-made (state (at-none c)) (time (at-none c)) _ (unrefused (at-none c))
-    (gives-nothing (state (at-none c)) (time (at-none c)) (start (at-none c)) _ (awake (c .before .before .before .before)) (c .before .before .choose .result) (c .before .before .choose .ensures) (not-true _ (c .if5 .taken))))
+returns-3 : tie.Need-returns-3
+returns-3 c =
+    let chosen = c .before .before in
+    let p = passed (chosen .before .before) in
+    let e = gives-nothing (state p) (time p) (start p) _ (awake (chosen .before .before)) (chosen .choose .result) (chosen .choose .ensures) (not-true _ (c .if3 .taken)) in
+    with-found (state p) (time p) PickAnswer.Nothing _ (shape p) (pick-made (state p) (time p) _ (unrefused p) e)
 
 cast-lane : tie.Need-cast-lane
 cast-lane c = search needs
@@ -202,6 +226,26 @@ cast-job c = search needs
 cast-payer : tie.Need-cast-payer
 cast-payer c = search needs
 
+-- The places of the preemption, and their ways back to where it begins.
+
+abbrev pay-q : tie.After-q → tie.Then4
+pay-q c = c .before .before
+
+abbrev pay-moved : tie.After-move-before → tie.Then4
+pay-moved c = pay-q (c .before)
+
+abbrev pay-chain : tie.After-charge-from-arg → tie.Then4
+pay-chain c = pay-moved (c .before .before .before)
+
+abbrev pay-sold : tie.After-add-arg → tie.Then4
+pay-sold c = pay-chain (c .before .before)
+
+abbrev pay-parent : tie.After-struct-known6 → tie.Then4
+pay-parent c = pay-sold (c .before .before .before)
+
+abbrev pay-mark : tie.After-mark-arg → tie.Then4
+pay-mark c = pay-parent (c .before .before)
+
 mul-q : tie.Need-mul-q
 mul-q c = omega (arith, may-pay (c .before) .lane)
 
@@ -209,79 +253,135 @@ element-copy-out-q : tie.Need-element-copy-out-q
 element-copy-out-q c = may-pay (c .before) .lane
 
 move-before-requires : tie.Need-move-before-requires
-move-before-requires c κs = let m = may-pay (c .before .before) in
-    rw (same-list (woke (c .before .before .before .before .before .before .before .before .before .before)) (c .before .before .before .before .before .before .before .before .choose .result .transport) (m .lists) (m .lane)) (m .count, (m .other, (m .movers, m .payers)))
+move-before-requires c κs =
+    let m = may-pay (pay-q c) in
+    rw (same-list (woke (at-waking (if-found (pay-q c)))) (lane (pay-q c)) (m .lists) (m .lane)) (m .count, (m .other, (m .movers, m .payers)))
 
 mul-queue : tie.Need-mul-queue
-mul-queue c = omega (arith, may-pay (c .before .before .before) .lane)
+mul-queue c = omega (arith, may-pay (pay-moved c) .lane)
 
 element-set-from-queue : tie.Need-element-set-from-queue
-element-set-from-queue c = may-pay (c .before .before .before) .lane
+element-set-from-queue c = may-pay (pay-moved c) .lane
 
 charge-from-requires : tie.Need-charge-from-requires
-charge-from-requires c κs = may-pay (c .before .before .before .before .before .before) .chain
+charge-from-requires c κs = may-pay (pay-chain c) .chain
 
 add-requires : tie.Need-add-requires
-add-requires c κs = (may-pay (c .before .before .before .before .before .before .before .before) .payer, may-pay (c .before .before .before .before .before .before .before .before) .sold)
+add-requires c κs = (may-pay (pay-sold c) .payer, may-pay (pay-sold c) .sold)
 
 add-put : tie.Need-add-put
-add-put c = omega (arith, may-pay (c .before .before .before .before .before .before .before .before .before .before .before) .payer)
+add-put c = omega (arith, may-pay (pay-parent c) .payer)
 
 put-requires : tie.Need-put-requires
-put-requires c κs = may-pay (c .before .before .before .before .before .before .before .before .before .before .before) .mover
+put-requires c κs = may-pay (pay-parent c) .mover
 
 mark-requires : tie.Need-mark-requires
-mark-requires c κs = may-pay (c .before .before .before .before .before .before .before .before .before .before .before .before .before) .mover
+mark-requires c κs = may-pay (pay-mark c) .mover
 
 cast-entry : tie.Need-cast-entry
 cast-entry c = search needs
 
+-- The places of the handing out, and their ways back to where the ways of the preemption met.
+
+abbrev reading : tie.After-read-arg → tie.Joined4
+reading c = c .before .before .before
+
+abbrev kinding : tie.After-put-kind-arg → tie.After-read-arg
+kinding c = c .before .before
+
+abbrev ticketing : tie.After-put-ticket-arg → tie.After-put-kind-arg
+ticketing c = c .before .before
+
+abbrev counting : tie.After-add-arg2 → tie.After-put-ticket-arg
+counting c = c .before .before
+
+abbrev turning : tie.After-struct-known8 → tie.After-add-arg2
+turning c = c .before .before .before
+
+abbrev adding : tie.After-one-more-arg → tie.After-struct-known8
+adding c = c .before .before
+
+abbrev sending : tie.After-add-arg3 → tie.After-one-more-arg
+sending c = c .before .before
+
+abbrev ending : tie.After-struct-known9 → tie.After-add-arg3
+ending c = c .before .before .before
+
+abbrev of-kind : tie.After-put-kind-arg → tie.Joined4
+of-kind c = reading (kinding c)
+
+abbrev of-ticket : tie.After-put-ticket-arg → tie.Joined4
+of-ticket c = of-kind (ticketing c)
+
+abbrev of-count : tie.After-add-arg2 → tie.Joined4
+of-count c = of-ticket (counting c)
+
+abbrev of-turn : tie.After-struct-known8 → tie.Joined4
+of-turn c = of-count (turning c)
+
+abbrev of-transport : tie.After-one-more-arg → tie.Joined4
+of-transport c = of-turn (adding c)
+
+abbrev of-destination : tie.After-add-arg3 → tie.Joined4
+of-destination c = of-transport (sending c)
+
+abbrev last : tie.After-struct-known9 → tie.Joined4
+last c = of-destination (ending c)
+
 read-requires : tie.Need-read-requires
-read-requires c κs = may-hand (c .before .before .before) .entry
+read-requires c κs = may-hand (reading c) .entry
 
 cast-d : tie.Need-cast-d
 cast-d c = search needs
 
 put-kind-requires : tie.Need-put-kind-requires
-put-kind-requires c κs = may-hand (c .before .before .before .before .before) .entry
+put-kind-requires c κs = may-hand (of-kind c) .entry
 
 put-ticket-requires : tie.Need-put-ticket-requires
-put-ticket-requires c κs = may-hand (c .before .before .before .before .before .before .before) .entry
+put-ticket-requires c κs = may-hand (of-ticket c) .entry
 
 add-requires-2 : tie.Need-add-requires-2
-add-requires-2 c κs = (may-hand (c .before .before .before .before .before .before .before .before .before) .job, omega (arith, may-hand (c .before .before .before .before .before .before .before .before .before) .picked))
+add-requires-2 c κs = (may-hand (of-count c) .job, omega (arith, may-hand (of-count c) .picked))
 
 add-put-2 : tie.Need-add-put-2
-add-put-2 c = omega (arith, may-hand (c .before .before .before .before .before .before .before .before .before .before .before .before) .ordered)
+add-put-2 c = omega (arith, may-hand (of-turn c) .ordered)
 
 put-requires-2 : tie.Need-put-requires-2
-put-requires-2 c κs = may-hand (c .before .before .before .before .before .before .before .before .before .before .before .before) .job
+put-requires-2 c κs = may-hand (of-turn c) .job
 
 one-more-requires : tie.Need-one-more-requires
-one-more-requires c κs = (may-hand (c .before .before .before .before .before .before .before .before .before .before .before .before .before .before) .lane, may-hand (c .before .before .before .before .before .before .before .before .before .before .before .before .before .before) .busyTransport)
+one-more-requires c κs = (may-hand (of-transport c) .lane, may-hand (of-transport c) .busyTransport)
+
+-- the destination, as it was read
+abbrev destination-read : tie.After-add-arg3 → tie.After-read
+destination-read c = ticketing (counting (turning (adding (sending c)))) .before
 
 add-requires-3 : tie.Need-add-requires-3
-add-requires-3 c κs = rw (c .before .before .before .before .before .before .before .before .before .before .before .before .read .ensures) (may-hand (c .before .before .before .before .before .before .before .before .before .before .before .before .before .before .before .before) .destination, omega (arith, may-hand (c .before .before .before .before .before .before .before .before .before .before .before .before .before .before .before .before) .busyDestination))
+add-requires-3 c κs =
+    rw (destination-read c .read .ensures) (may-hand (of-destination c) .destination, omega (arith, may-hand (of-destination c) .busyDestination))
 
 next-ticket-requires : tie.Need-next-ticket-requires
 next-ticket-requires c κs = search needs
 
 add-next : tie.Need-add-next
-add-next c = omega (arith, may-hand (c .before .before .before .before .before .before .before .before .before .before .before .before .before .before .before .before .before .before .before) .lane)
+add-next c = omega (arith, may-hand (last c) .lane)
 
--- from the last place back to where the ways of the preemption met
-abbrev last : tie.After-struct-known10 → tie.Joined6
-last c = c .before .before .before .before .before .before .before .before .before .before .before .before .before .before .before .before .before .before .before
-
-returns-5 : tie.Need-returns-5
-returns-5 c =
-    with-found (state (at-start (met (last c)))) (time (at-start (met (last c)))) (PickAnswer.Picked _ _ _ _) _ (shape (at-start (met (last c))))
-    (pick-made (state (at-start (met (last c)))) (time (at-start (met (last c)))) _ (unrefused (at-start (met (last c))))
+returns-4 : tie.Need-returns-4
+returns-4 c =
+    let p = at-start (met (last c)) in
+    let x = choice (met (last c)) in
+    let sent = ending c in
+    let added = sending sent in
+    let turned = adding added in
+    let counted = turning turned in
+    let ticketed = counting counted in
+    let read = destination-read sent .read in
+    with-found (state p) (time p) (PickAnswer.Picked _ _ _ _) _ (shape p)
+    (pick-made (state p) (time p) _ (unrefused p)
     (given (last c) _
-    (hand-out-is (last c .if6 .next) (choice (met (last c)) .transport) (choice (met (last c)) .job) (choice (met (last c)) .place) (choice (met (last c)) .entry) (c .before .before .before .before .before .before .before .before .before .before .before .before .before .before .before .read .result) (c .before .next-ticket .result) _ _ _ _ _ _
-    (c .before .before .before .before .before .before .before .before .before .before .before .before .before .before .before .read .ensures) (c .before .next-ticket .ensures) (c .before .before .before .before .before .before .before .before .before .before .before .before .before .put-kind .ensures)
-    (c .before .before .before .before .before .before .before .before .before .before .before .put-ticket .ensures) (c .before .before .before .before .before .before .before .before .before .add2 .ensures)
-    (c .before .before .before .before .before .before .put2 .ensures) (c .before .before .before .before .one-more .ensures) (c .before .before .add3 .ensures))))
+    (hand-out-is (last c .if4 .next) (x .transport) (x .job) (x .place) (x .entry) (read .result) (c .before .next-ticket .result) _ _ _ _ _ _
+    (read .ensures) (c .before .next-ticket .ensures) (ticketed .before .put-kind .ensures) (counted .before .put-ticket .ensures)
+    (turned .before .before .add2 .ensures) (added .before .put2 .ensures) (sent .before .one-more .ensures) (c .before .before .add3 .ensures))))
 
 pub pick-spec : {M : Type 1} → statement M
 pick-spec =
@@ -289,14 +389,12 @@ pick-spec =
     (tie.spec
     sound-with-requires
     returns
-    cast-if2
+    bad-clock-requires
     returns-2
-    returns-3
     cast-next
-    any-due-requires
     wake-requires
     choose-requires
-    returns-4
+    returns-3
     cast-lane
     cast-job
     cast-payer
@@ -322,4 +420,4 @@ pick-spec =
     add-requires-3
     next-ticket-requires
     add-next
-    returns-5)
+    returns-4)
