@@ -31,7 +31,11 @@ shared-slice-read-d c = omega arith
 
 returns : tie.Need-returns Inv-loop μ-loop
 unfolding onTransport
-returns c = sym (every-false-of (onTransport (c .before .before .before .before .args .home .now) (c .before .before .before .before .args .count) (c .before .before .before .before .args .t)) (c .before .before .before .before .args .dests .now) (c .before .before .before .loop .i) 0 (c .before .before .loop-test .taken) (and-left-false _ (le-ltb _ _ (c .if1 .taken))))
+returns c =
+    let turn = c .before .before .before .loop in
+    let start = c .before .before .before .before in
+    let on = onTransport (start .args .home .now) (start .args .count) (start .args .t) in
+    sym (every-false-of on (start .args .dests .now) (turn .i) 0 (c .before .before .loop-test .taken) (and-left-false _ (le-ltb _ _ (c .if1 .taken))))
 
 mul-if2 : tie.Need-mul-if2 Inv-loop μ-loop
 mul-if2 c = omega arith
@@ -41,7 +45,12 @@ element-copy-out-if2 c = omega arith
 
 returns-2 : tie.Need-returns-2 Inv-loop μ-loop
 unfolding onTransport
-returns-2 c = sym (every-false-of (onTransport (c .before .before .before .before .before .before .args .home .now) (c .before .before .before .before .before .before .args .count) (c .before .before .before .before .before .before .args .t)) (c .before .before .before .before .before .before .args .dests .now) (c .before .before .before .before .before .loop .i) 0 (c .before .before .before .before .loop-test .taken) (and-right-false (ltb (at (c .before .before .before .before .before .before .args .dests .now) (c .before .before .before .before .before .loop .i)) (c .before .before .before .before .before .before .args .count)) (ne-eqb _ _ (c .if2 .taken))))
+returns-2 c =
+    let turn = c .before .before .before .before .before .loop in
+    let start = c .before .before .before .before .before .before in
+    let on = onTransport (start .args .home .now) (start .args .count) (start .args .t) in
+    let below = ltb (at (start .args .dests .now) (turn .i)) (start .args .count) in
+    sym (every-false-of on (start .args .dests .now) (turn .i) 0 (c .before .before .before .before .loop-test .taken) (and-right-false below (ne-eqb _ _ (c .if2 .taken))))
 
 add-i : tie.Need-add-i Inv-loop μ-loop
 add-i c = omega arith
@@ -51,12 +60,16 @@ loop-less c = omega arith
 
 loop-again : tie.Need-loop-again Inv-loop μ-loop
 unfolding onTransport
-loop-again c = (omega arith, below-more _ _ (c .before .before .before .before .before .loop .inv .1) (and-both (lt-ltb _ _ (c .before .before .if1 .left)) (eq-eqb _ _ (c .if2 .left))))
+loop-again c =
+    let turn = c .before .before .before .before .before .loop in
+    (omega arith, below-more _ _ (turn .inv .1) (and-both (lt-ltb _ _ (c .before .before .if1 .left)) (eq-eqb _ _ (c .if2 .left))))
 
 returns-3 : tie.Need-returns-3 Inv-loop μ-loop
 returns-3 c =
-    let e : c .before .loop .i ≡ length (c .before .before .args .dests .now) = omega arith in
-    sym (every-from-getD (onTransport (c .before .before .args .home .now) (c .before .before .args .count) (c .before .before .args .t)) (c .before .before .args .dests .now) 0 (rw e at (c .before .loop .inv .1)))
+    let turn = c .before .loop in
+    let start = c .before .before in
+    let e : turn .i ≡ length (start .args .dests .now) = omega arith in
+    sym (every-from-getD (onTransport (start .args .home .now) (start .args .count) (start .args .t)) (start .args .dests .now) 0 (rw e at (turn .inv .1)))
 
 pub all-on-spec : {M : Type 1} → statement M
 all-on-spec =

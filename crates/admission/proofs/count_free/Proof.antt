@@ -34,13 +34,15 @@ loop-less c = omega arith
 
 loop-again : tie.Need-loop-again Inv-loop μ-loop
 unfolding freeIn
-loop-again c = (
-  omega arith,
-  ⊎-elim
-      (λ w. w .1 ∙ ap (λ x. x + 1) (c .before .before .before .loop .inv .1) ∙ sym (count-hit (freeIn (c .before .before .before .before .args .kind .now)) (c .before .before .before .loop .e) (eq-eqb _ _ (w .0 .taken))))
-      (λ w. w .1 ∙ c .before .before .before .loop .inv .1 ∙ sym (count-miss (freeIn (c .before .before .before .before .args .kind .now)) (c .before .before .before .loop .e) (ne-eqb _ _ (w .0 .left))))
-      (c .if1 .came),
-)
+loop-again c =
+    let turn = c .before .before .before .loop in
+    let start = c .before .before .before .before in (
+      omega arith,
+      ⊎-elim
+          (λ w. w .1 ∙ ap (λ x. x + 1) (turn .inv .1) ∙ sym (count-hit (freeIn (start .args .kind .now)) (turn .e) (eq-eqb _ _ (w .0 .taken))))
+          (λ w. w .1 ∙ turn .inv .1 ∙ sym (count-miss (freeIn (start .args .kind .now)) (turn .e) (ne-eqb _ _ (w .0 .left))))
+          (c .if1 .came),
+    )
 
 returns : tie.Need-returns Inv-loop μ-loop
 returns c =

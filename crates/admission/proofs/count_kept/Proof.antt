@@ -1,6 +1,6 @@
 -- The kept among the first i are counted. Assumes nothing.
-use Prim.Native.Nat.{_+_, _≤_, _-_}
-use mathlib.Core.Bool.{not, false}
+use Prim.Native.Nat.{ℕ, _+_, _≤_, _-_}
+use mathlib.Core.Bool.{Bool, not, false}
 use mathlib.Core.Path.{_≡_, refl, sym, ap, _∙_}
 use mathlib.Core.Logic.{⊎-elim}
 use native.Mathlib.Omega.{arith}
@@ -34,7 +34,10 @@ element-copy-out-if1 : tie.Need-element-copy-out-if1 Inv-loop μ-loop
 element-copy-out-if1 c = c .before .before .before .pre _ (c .before .loop-test .taken)
 
 add-n : tie.Need-add-n Inv-loop μ-loop
-add-n c = omega (arith, length-keep-take (λ d. not (getD (c .before .before .before .before .before .args .dead .now) d false)) (c .before .before .before .before .before .args .dests .now) (c .before .before .before .before .loop .i) (omega arith))
+add-n c =
+    let turn = c .before .before .before .before .loop in
+    let start = c .before .before .before .before .before in
+    omega (arith, length-keep-take (λ d. not (getD (start .args .dead .now) d false)) (start .args .dests .now) (turn .i) (omega arith))
 
 add-i : tie.Need-add-i Inv-loop μ-loop
 add-i c = omega arith
@@ -43,13 +46,18 @@ loop-less : tie.Need-loop-less Inv-loop μ-loop
 loop-less c = omega arith
 
 loop-again : tie.Need-loop-again Inv-loop μ-loop
-loop-again c = (
-  omega arith,
-  ⊎-elim
-      (λ w. w .1 ∙ ap (λ x. x + 1) (c .before .before .before .before .loop .inv .1) ∙ sym (length-snoc (keep (λ d. not (getD (c .before .before .before .before .before .args .dead .now) d false)) (take (c .before .before .before .before .loop .i) (c .before .before .before .before .before .args .dests .now))) (at (c .before .before .before .before .before .args .dests .now) (c .before .before .before .before .loop .i))) ∙ ap length (sym (keep-more (λ d. not (getD (c .before .before .before .before .before .args .dead .now) d false)) (c .before .before .before .before .before .args .dests .now) (c .before .before .before .before .loop .i) (c .before .before .before .loop-test .taken) (w .0 .taken))))
-      (λ w. w .1 ∙ c .before .before .before .before .loop .inv .1 ∙ ap length (sym (keep-fewer (λ d. not (getD (c .before .before .before .before .before .args .dead .now) d false)) (c .before .before .before .before .before .args .dests .now) (c .before .before .before .before .loop .i) (c .before .before .before .loop-test .taken) (w .0 .left))))
-      (c .if1 .came),
-)
+loop-again c =
+    let turn = c .before .before .before .before .loop in
+    let below = c .before .before .before .loop-test .taken in
+    let dests = c .before .before .before .before .before .args .dests .now in
+    let live : ℕ → Bool = λ d. not (getD (c .before .before .before .before .before .args .dead .now) d false) in
+    let one-more = sym (length-snoc (keep live (take (turn .i) dests)) (at dests (turn .i))) in (
+      omega arith,
+      ⊎-elim
+          (λ w. w .1 ∙ ap (λ x. x + 1) (turn .inv .1) ∙ one-more ∙ ap length (sym (keep-more live dests (turn .i) below (w .0 .taken))))
+          (λ w. w .1 ∙ turn .inv .1 ∙ ap length (sym (keep-fewer live dests (turn .i) below (w .0 .left))))
+          (c .if1 .came),
+    )
 
 returns : tie.Need-returns Inv-loop μ-loop
 unfolding keptBy

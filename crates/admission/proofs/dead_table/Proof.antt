@@ -41,11 +41,13 @@ loop-less c = omega arith
 
 loop-again : tie.Need-loop-again Inv-loop μ-loop
 unfolding deadOn
-loop-again c = (
-  ap (set (c .before .before .before .loop .dead) (c .before .before .before .loop .d)) (c .is-dead .ensures) ∙ rw (c .before .before .before .loop .inv .0) (table-drop-step (deadOn (c .before .before .before .before .args .t1)) _ (c .before .before .before .loop .d) (omega (arith, c .before .before .before .loop .inv .2))),
-  omega arith,
-  c .before .before .before .loop .inv .2,
-)
+loop-again c =
+    let turn = c .before .before .before .loop in
+    let start = c .before .before .before .before in (
+      ap (set (turn .dead) (turn .d)) (c .is-dead .ensures) ∙ rw (turn .inv .0) (table-drop-step (deadOn (start .args .t1)) _ (turn .d) (omega (arith, turn .inv .2))),
+      omega arith,
+      turn .inv .2,
+    )
 
 returns : tie.Need-returns Inv-loop μ-loop
 returns c =

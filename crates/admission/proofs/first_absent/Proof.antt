@@ -25,7 +25,10 @@ cast-result : tie.Need-cast-result Inv-loop μ-loop
 cast-result c = omega arith
 
 returns : tie.Need-returns Inv-loop μ-loop
-returns c = sym (first-unique (λ j. not (getD (c .before .before .before .before .args .present .now) j false)) 32 (c .before .before .before .loop .j) (c .before .before .loop-test .taken) (c .if1 .taken) (c .before .before .before .loop .inv .1))
+returns c =
+    let turn = c .before .before .before .loop in
+    let start = c .before .before .before .before in
+    sym (first-unique (λ j. not (getD (start .args .present .now) j false)) 32 (turn .j) (c .before .before .loop-test .taken) (c .if1 .taken) (turn .inv .1))
 
 add-j : tie.Need-add-j Inv-loop μ-loop
 add-j c = omega arith

@@ -64,7 +64,8 @@ returns-5 : tie.Need-returns-5
 returns-5 c =
     let a = allowed (c .before) in
     let f = few a in
-    refuses-number _ _ _ _ _ _ _ _ _ (there f .if1 .left) (some f .if2 .left) (f .if3 .left) (theirs a) _ (waiting (c .before) .count-kept .ensures) _ (c .before .first-absent .ensures) (c .if5 .taken)
+    refuses-number _ _ _ _ _ _ _ _ _ (there f .if1 .left) (some f .if2 .left) (f .if3 .left) (theirs a) _ (waiting (c .before) .count-kept .ensures) _ (c .before .first-absent .ensures)
+    (c .if5 .taken)
 
 count-free-requires : tie.Need-count-free-requires
 count-free-requires c κs = tt

@@ -39,7 +39,10 @@ loop-less : tie.Need-loop-less Inv-loop μ-loop
 loop-less c = omega arith
 
 loop-again : tie.Need-loop-again Inv-loop μ-loop
-loop-again c = (rw (c .index16 .ensures, c .before .before .before .loop .inv .0) (filled-more (c .before .before .before .before .args .places .now) (λ k. c .before .before .before .before .args .v) (c .before .before .before .before .args .column .now) (c .before .before .before .loop .i)), omega arith)
+loop-again c =
+    let turn = c .before .before .before .loop in
+    let start = c .before .before .before .before in
+    (rw (c .index16 .ensures, turn .inv .0) (filled-more (start .args .places .now) (λ k. start .args .v) (start .args .column .now) (turn .i)), omega arith)
 
 returns : tie.Need-returns Inv-loop μ-loop
 returns c =

@@ -37,10 +37,16 @@ array-write-seen : tie.Need-array-write-seen Inv-loop μ-loop
 array-write-seen c = rw (c .before .wide .ensures .0) (c .before .before .before .before .before .pre .1 _ (c .before .before .before .loop-test .taken))
 
 array-write-places : tie.Need-array-write-places Inv-loop μ-loop
-array-write-places c = seen-room (c .before .before .before .before .loop .inv .0) (λ k h. c .before .before .before .before .before .pre .1 k (omega arith)) (rw (c .before .wide .ensures .0) at (not-true (getD (c .before .before .before .before .loop .seen) (c .before .wide .result) false) (c .if1 .taken)))
+array-write-places c =
+    let turn = c .before .before .before .before .loop in
+    let start = c .before .before .before .before .before in
+    seen-room (turn .inv .0) (λ k h. start .pre .1 k (omega arith)) (rw (c .before .wide .ensures .0) at (not-true (getD (turn .seen) (c .before .wide .result) false) (c .if1 .taken)))
 
 add-m : tie.Need-add-m Inv-loop μ-loop
-add-m c = omega (arith, seen-room (c .before .before .before .before .loop .inv .0) (λ k h. c .before .before .before .before .before .pre .1 k (omega arith)) (rw (c .before .wide .ensures .0) at (not-true (getD (c .before .before .before .before .loop .seen) (c .before .wide .result) false) (c .if1 .taken))))
+add-m c =
+    let turn = c .before .before .before .before .loop in
+    let start = c .before .before .before .before .before in
+    omega (arith, seen-room (turn .inv .0) (λ k h. start .pre .1 k (omega arith)) (rw (c .before .wide .ensures .0) at (not-true (getD (turn .seen) (c .before .wide .result) false) (c .if1 .taken))))
 
 add-i : tie.Need-add-i Inv-loop μ-loop
 add-i c = omega arith
@@ -49,16 +55,26 @@ loop-less : tie.Need-loop-less Inv-loop μ-loop
 loop-less c = omega arith
 
 loop-again : tie.Need-loop-again Inv-loop μ-loop
-loop-again c = (
-  ⊎-elim
-      (λ w. seen-new (c .before .before .before .before .loop .inv .0) (λ k h. c .before .before .before .before .before .pre .1 k (omega arith)) (rw (c .before .wide .ensures .0) at (not-true (getD (c .before .before .before .before .loop .seen) (c .before .wide .result) false) (w .0 .taken))) (rw (c .before .wide .ensures .0) at (w .1)) (w .2) (w .3))
-      (λ w. seen-again (c .before .before .before .before .loop .inv .0) (λ k h. c .before .before .before .before .before .pre .1 k (omega arith)) (rw (c .before .wide .ensures .0) at (not-false (getD (c .before .before .before .before .loop .seen) (c .before .wide .result) false) (w .0 .left))) (w .1) (w .2) (w .3))
-      (c .if1 .came),
-  omega arith,
-)
+loop-again c =
+    let turn = c .before .before .before .before .loop in
+    let start = c .before .before .before .before .before in
+    let d = c .before .wide in (
+      ⊎-elim
+          (λ w.
+          let fresh = rw (d .ensures .0) at (not-true (getD (turn .seen) (d .result) false) (w .0 .taken)) in
+          seen-new (turn .inv .0) (λ k h. start .pre .1 k (omega arith)) fresh (rw (d .ensures .0) at (w .1)) (w .2) (w .3))
+          (λ w.
+          let seen = rw (d .ensures .0) at (not-false (getD (turn .seen) (d .result) false) (w .0 .left)) in
+          seen-again (turn .inv .0) (λ k h. start .pre .1 k (omega arith)) seen (w .1) (w .2) (w .3))
+          (c .if1 .came),
+      omega arith,
+    )
 
 cast-t21 : tie.Need-cast-t21 Inv-loop μ-loop
-cast-t21 c = omega (arith, firsts-length (c .before .before .args .kept .now) (c .before .loop .i) 32 (λ k h. c .before .before .pre .1 k (omega arith)), c .before .loop .inv .0 .count)
+cast-t21 c =
+    let turn = c .before .loop in
+    let start = c .before .before in
+    omega (arith, firsts-length (start .args .kept .now) (turn .i) 32 (λ k h. start .pre .1 k (omega arith)), turn .inv .0 .count)
 
 returns : tie.Need-returns Inv-loop μ-loop
 returns c =

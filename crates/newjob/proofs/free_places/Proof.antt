@@ -61,21 +61,23 @@ loop-less c = omega (arith, below (c .before .before))
 loop-again : tie.Need-loop-again Inv-loop μ-loop
 unfolding freeIn
 loop-again c =
-    let f = (freeIn (c .before .before .before .before .args .kind .now)) in
+    let turn = c .before .before .before .loop in
+    let start = c .before .before .before .before in
+    let f = freeIn (start .args .kind .now) in
     let l = below (c .before .before) in
-    let few : length (chosenTo f (c .before .before .before .loop .e)) < 256 = omega (arith, length-chosen f (c .before .before .before .loop .e)) in
-    let r : (c .if1 .places ≡ padded 256 (chosenTo f (c .before .before .before .loop .e + 1))) × (c .if1 .m ≡ countTo f (c .before .before .before .loop .e + 1)) × (c .if1 .m ≤ c .before .before .before .before .args .n) =
+    let few : length (chosenTo f (turn .e)) < 256 = omega (arith, length-chosen f (turn .e)) in
+    let r : (c .if1 .places ≡ padded 256 (chosenTo f (turn .e + 1))) × (c .if1 .m ≡ countTo f (turn .e + 1)) × (c .if1 .m ≤ start .args .n) =
     ⊎-elim
     (λ w.
-    let t : f (c .before .before .before .loop .e) ≡ true = eq-eqb _ _ (w .0 .taken) in (
-      w .1 ∙ put-at 256 (chosenTo f (c .before .before .before .loop .e)) (c .before .before .before .loop .e) (c .before .before .before .loop .inv .0) (c .before .before .before .loop .inv .1 ∙ sym (length-chosen f (c .before .before .before .loop .e))) (omega arith) ∙ ap (padded 256) (sym (chosen-hit f (c .before .before .before .loop .e) t)),
-      w .2 ∙ ap (λ x. x + 1) (c .before .before .before .loop .inv .1) ∙ sym (count-hit f (c .before .before .before .loop .e) t),
+    let t : f (turn .e) ≡ true = eq-eqb _ _ (w .0 .taken) in (
+      w .1 ∙ put-at 256 (chosenTo f (turn .e)) (turn .e) (turn .inv .0) (turn .inv .1 ∙ sym (length-chosen f (turn .e))) (omega arith) ∙ ap (padded 256) (sym (chosen-hit f (turn .e) t)),
+      w .2 ∙ ap (λ x. x + 1) (turn .inv .1) ∙ sym (count-hit f (turn .e) t),
       omega (arith, w .2),
     ))
     (λ w.
-    let t : f (c .before .before .before .loop .e) ≡ false = ne-eqb _ _ (w .0 .left) in (
-      w .1 ∙ c .before .before .before .loop .inv .0 ∙ ap (padded 256) (sym (chosen-miss f (c .before .before .before .loop .e) t)),
-      w .2 ∙ c .before .before .before .loop .inv .1 ∙ sym (count-miss f (c .before .before .before .loop .e) t),
+    let t : f (turn .e) ≡ false = ne-eqb _ _ (w .0 .left) in (
+      w .1 ∙ turn .inv .0 ∙ ap (padded 256) (sym (chosen-miss f (turn .e) t)),
+      w .2 ∙ turn .inv .1 ∙ sym (count-miss f (turn .e) t),
       omega (arith, w .2),
     ))
     (c .if1 .came) in
@@ -83,9 +85,11 @@ loop-again c =
 
 returns : tie.Need-returns Inv-loop μ-loop
 returns c =
+    let turn = c .before .loop in
+    let start = c .before .before in
     λ i l.
-    let f = (freeIn (c .before .before .args .kind .now)) in
-    ap (λ a. at a i) (c .before .loop .inv .0) ∙ getD-padded 256 (chosenTo f (c .before .loop .e)) i ∙ chosen-prefix f 0 (c .before .loop .e) 512 i (c .before .loop .inv .2) (omega arith)
+    let f = freeIn (start .args .kind .now) in
+    ap (λ a. at a i) (turn .inv .0) ∙ getD-padded 256 (chosenTo f (turn .e)) i ∙ chosen-prefix f 0 (turn .e) 512 i (turn .inv .2) (omega arith)
 
 pub free-places-spec : {M : Type 1} → statement M
 free-places-spec =

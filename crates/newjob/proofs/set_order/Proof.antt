@@ -35,7 +35,10 @@ loop-less : tie.Need-loop-less Inv-loop μ-loop
 loop-less c = omega arith
 
 loop-again : tie.Need-loop-again Inv-loop μ-loop
-loop-again c = (rw (c .before .before .loop .inv .0, add-one (c .before .before .loop .i)) (paste-suc (c .before .before .before .args .column .now) (32 * c .before .before .before .args .j) (c .before .before .before .args .order .now) (c .before .before .loop .i) 0 (omega arith) (omega arith)), omega arith)
+loop-again c =
+    let turn = c .before .before .loop in
+    let start = c .before .before .before in
+    (rw (turn .inv .0, add-one (turn .i)) (paste-suc (start .args .column .now) (32 * start .args .j) (start .args .order .now) (turn .i) 0 (omega arith) (omega arith)), omega arith)
 
 returns : tie.Need-returns Inv-loop μ-loop
 returns c =

@@ -37,13 +37,19 @@ mul-list : tie.Need-mul-list Inv-loop μ-loop
 mul-list c = omega (arith, parting-found (c .before .before .before .before .loop .inv))
 
 slice-write-list : tie.Need-slice-write-list Inv-loop μ-loop
-slice-write-list c = omega (arith, parting-found (c .before .before .before .before .loop .inv), parting-length (c .before .before .before .before .loop .inv) (c .before .before .before .before .before .pre .1 .1))
+slice-write-list c =
+    let turn = c .before .before .before .before .loop in
+    let start = c .before .before .before .before .before in
+    omega (arith, parting-found (turn .inv), parting-length (turn .inv) (start .pre .1 .1))
 
 add-m : tie.Need-add-m Inv-loop μ-loop
 add-m c = omega (arith, parting-found (c .before .before .before .before .loop .inv))
 
 cast-kept : tie.Need-cast-kept Inv-loop μ-loop
-cast-kept c = omega (arith, c .before .before .before .before .before .pre .0 (c .before .before .before .before .loop .i) (c .before .before .before .loop-test .taken))
+cast-kept c =
+    let turn = c .before .before .before .before .loop in
+    let start = c .before .before .before .before .before in
+    omega (arith, start .pre .0 (turn .i) (c .before .before .before .loop-test .taken))
 
 array-write-kept : tie.Need-array-write-kept Inv-loop μ-loop
 array-write-kept c = omega (arith, parting-count (c .before .before .before .before .loop .inv))
@@ -59,9 +65,11 @@ loop-less c = omega arith
 
 loop-again : tie.Need-loop-again Inv-loop μ-loop
 loop-again c =
+    let turn = c .before .before .before .before .loop in
+    let start = c .before .before .before .before .before in
     ⊎-elim
-    (λ w. parting-dead (c .before .before .before .before .loop .inv) (c .before .before .before .loop-test .taken) (c .before .before .before .before .before .pre .1 .0) (c .before .before .before .before .before .pre .1 .1) (w .0 .taken) (w .1) (w .2) (w .3) (w .4))
-    (λ w. parting-live (c .before .before .before .before .loop .inv) (c .before .before .before .loop-test .taken) (c .before .before .before .before .before .pre .1 .0) (c .before .before .before .before .before .pre .1 .1) (w .0 .left) (w .1) (w .2) (w .3) (w .4))
+    (λ w. parting-dead (turn .inv) (c .before .before .before .loop-test .taken) (start .pre .1 .0) (start .pre .1 .1) (w .0 .taken) (w .1) (w .2) (w .3) (w .4))
+    (λ w. parting-live (turn .inv) (c .before .before .before .loop-test .taken) (start .pre .1 .0) (start .pre .1 .1) (w .0 .left) (w .1) (w .2) (w .3) (w .4))
     (c .if1 .came)
 
 cast-t24 : tie.Need-cast-t24 Inv-loop μ-loop

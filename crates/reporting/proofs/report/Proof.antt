@@ -362,7 +362,8 @@ returns-4 c =
     (report-is (state f) (time f) (entry f) (outcome f) (shape f) (awake (woke (step .before .before .before .before .before .before))) (step .step .ensures)
     (off .before .before .before .before .before .before .before .before .is-live .ensures) (off .before .before .before .before .before .before .before .is-live2 .ensures)
     (off .put-off .ensures) (free .put-kind .ensures) (stay .staying .ensures) (a .adopt .ensures)
-    (last c .before .before .before .before .put-counts .ensures) (last c .before .before .put-links .ensures) (last c .put-marks .ensures) (kept (c .before) .keep .ensures ∙ queue) (c .keep2 .ensures))
+    (last c .before .before .before .before .put-counts .ensures) (last c .before .before .put-links .ensures) (last c .put-marks .ensures)
+    (kept (c .before) .keep .ensures ∙ queue) (c .keep2 .ensures))
 
 pub report-spec : {M : Type 1} → statement M
 report-spec =

@@ -83,7 +83,9 @@ one-more : (c : tie.Joined1 Inv-loop μ-loop) → c .if1 .next ≡ wokenTo (roun
 one-more c =
     let l : round c .loop .d < length (round c .before .args .ds) = omega (arith, round c .loop .inv .3) in
     ⊎-elim
-    (λ w. w .5 ∙ woken-written _ (parts (round c)) _ _ _ (round c .loop .inv .0) (omega arith) l _ (sym (c .before .is-due .ensures) ∙ w .0 .taken) (w .4 .ensures ∙ ap (λ t. firstState (getD (parts (round c) .settings) t zeroSettings)) (w .2 .ensures)))
+    (λ w.
+    let first = w .4 .ensures ∙ ap (λ t. firstState (getD (parts (round c) .settings) t zeroSettings)) (w .2 .ensures) in
+    w .5 ∙ woken-written _ (parts (round c)) _ _ _ (round c .loop .inv .0) (omega arith) l _ (sym (c .before .is-due .ensures) ∙ w .0 .taken) first)
     (λ w. w .1 ∙ woken-kept _ (parts (round c)) _ _ _ (round c .loop .inv .0) (omega arith) l (sym (c .before .is-due .ensures) ∙ w .0 .left))
     (c .if1 .came)
 
