@@ -1,6 +1,6 @@
 -- Chains that lead to job numbers: one step of them, and that those of a sound state do.
 use Prim.Native.Nat.{ℕ, zero, suc, _+_, _-_, _≤_, _<_, min}
-use mathlib.Core.Path.{_≡_, refl, sym, ap, subst}
+use mathlib.Core.Path.{_≡_, refl, sym, subst}
 use mathlib.Core.Bool.{true}
 use mathlib.Core.List.{List}
 use native.Mathlib.Nat.{suc-inj}
@@ -17,8 +17,7 @@ use Rattle.rules.specs.Sizes.{sumLimit, maxJobs}
 use Rattle.rules.specs.State.{at, isPresent, parentOf}
 use Rattle.rules.specs.SoundFacts.{Sound}
 use Rattle.rules.specs.Preemption.{addedTo}
-use Rattle.rules.proofs.Shape.{Shaped}
-use Rattle.rules.proofs.EntryFacts.{present-below}
+use Rattle.rules.proofs.Shape.{Shaped, present-below}
 use Rattle.rules.proofs.KeptPreempting.{parent-present}
 use Rattle.charging.specs.Links.{leadsInside}
 

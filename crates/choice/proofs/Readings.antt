@@ -21,12 +21,14 @@ use Rattle.rules.specs.declared.State.{State}
 use Rattle.rules.specs.State.{at, transportOf, queueOf, isWaiting, jobOf, destinationOf, isPresent, waitsOf, waitingOf, orderAt}
 use Rattle.rules.specs.SoundFacts.{Sound}
 use Rattle.rules.specs.Picking.{eligible, eligibleOn, eligibleOf, eligibleTo, hasEligible, stepsTo, transportSteps, finds, nextTransport, currentJob, passedOver, nextPlace, nextEntry}
-use Rattle.rules.proofs.Shape.{Shaped}
-use Rattle.rules.proofs.EntryFacts.{present-below, waiting-used, eligible-of-eligible, eligible-of-job, eligible-sound}
+use Rattle.rules.proofs.Shape.{Shaped, present-below}
+use Rattle.rules.proofs.EntryFacts.{eligible-of-eligible, eligible-of-job, eligible-sound}
 use Rattle.rules.proofs.Turns.{steps-found}
-use Rattle.rules.proofs.Picked.{queue-job, TransportFound, transport-found, Current, current-found, next-found}
+use Rattle.rules.proofs.Picked.{TransportFound, transport-found, Current, current-found, next-found}
 use Rattle.eligibility.specs.Eligibility.{waitsIn, Adds, Reads, openPlace}
 use Rattle.turns.specs.Turns.{frontOf, aheadOf, hasFront, frontSteps, Turned, Placed}
+use Rattle.rules.proofs.ListFacts.{queue-job}
+use Rattle.rules.proofs.EntryTests.{waiting-used}
 
 -- turns that ask the same
 pub steps-same : (p q : ℕ → Bool) (n start : ℕ) → ((k : ℕ) → k < n → p k ≡ q k) → stepsTo p n start ≡ stepsTo q n start

@@ -18,11 +18,12 @@ use Rattle.rules.specs.declared.State.{State}
 use Rattle.rules.specs.State.{at, transportOf, isWaiting, jobOf, destinationOf, isPresent, waitsOf, waitingOf, orderAt}
 use Rattle.rules.specs.SoundFacts.{Sound}
 use Rattle.rules.specs.Picking.{hasRoom, hasAgent, eligible, eligibleOf, eligibleTo, hasEligible}
-use Rattle.rules.proofs.Shape.{Shaped}
-use Rattle.rules.proofs.EntryFacts.{present-below, waiting-used, eligible-of-eligible, eligible-of-job, eligible-sound}
+use Rattle.rules.proofs.Shape.{Shaped, present-below}
+use Rattle.rules.proofs.EntryFacts.{eligible-of-eligible, eligible-of-job, eligible-sound}
 use Rattle.counting.specs.Counting.{countsTo, Paired}
 use Rattle.counting.proofs.PairLaws.{pair-test}
 use Rattle.eligibility.specs.Eligibility.{isOpen, waitsIn, openPair, openTo, readyIn, waitsFor, Reads, openPlace}
+use Rattle.rules.proofs.EntryTests.{waiting-used}
 
 -- who is ready: of the 32 jobs, and past them
 

@@ -28,18 +28,19 @@ use Rattle.rules.specs.Preemption.{preempting, preemptorOf}
 use Rattle.rules.specs.Pick.{handedOut, pickFrom, pickWith, pickOn, picking}
 use Rattle.rules.specs.Refusals.{pickRefusal}
 use Rattle.rules.specs.Calls.{granted, pickingReply, afterPick}
-use Rattle.rules.proofs.Shape.{Shaped}
+use Rattle.rules.proofs.Shape.{Shaped, present-below}
 use Rattle.rules.proofs.Soundness.{sound-facts}
-use Rattle.rules.proofs.EntryFacts.{present-below, waiting-used}
 use Rattle.rules.proofs.Accepted.{pick-accepted}
 use Rattle.rules.proofs.KeptWaking.{kept-woken}
-use Rattle.rules.proofs.Picked.{TransportFound, transport-found, Current, current-found, queue-once}
+use Rattle.rules.proofs.Picked.{TransportFound, transport-found, Current, current-found}
 use Rattle.rules.proofs.Preemptor.{Preempts, preemptor-found}
 use Rattle.rules.proofs.KeptPreempting.{kept-preempting}
 use Rattle.rules.proofs.Preempted.{preempting-eligible, preempting-place, preempting-entry}
 use Rattle.rules.proofs.HandedOut.{CanHandOut}
 use Rattle.rules.proofs.KeptPicking.{next-can}
 use Rattle.picking.specs.May.{MayPreempt, MayHandOut}
+use Rattle.rules.proofs.ListFacts.{queue-once}
+use Rattle.rules.proofs.EntryTests.{waiting-used}
 
 pub fits-clock : (now : ℕ) → now ≤ lastSecond → Fits w32 now
 fits-clock now h = record { fits = omega arith }

@@ -32,11 +32,10 @@ use Rattle.rules.specs.Reporting.{settled, stays, parentAfter, departed, report
 use Rattle.rules.specs.Calls.{Reply, granted, written, reportingReply}
 use Rattle.laws.specs.Choice.{if_then_else_}
 use Rattle.laws.specs.Chain.{firstAlong}
-use Rattle.rules.proofs.Shape.{Shaped, present-length, dropped-length}
+use Rattle.rules.proofs.Shape.{Shaped, present-length, dropped-length, present-below}
 use Rattle.rules.proofs.RangeFacts.{sums-fit-of}
 use Rattle.rules.proofs.Soundness.{sound-facts}
-use Rattle.rules.proofs.EntryTests.{busy-used}
-use Rattle.rules.proofs.EntryFacts.{present-below, waiting-used}
+use Rattle.rules.proofs.EntryTests.{busy-used, waiting-used}
 use Rattle.rules.proofs.KeptWaking.{kept-woken}
 use Rattle.rules.proofs.Departed.{absent-leaves}
 use Rattle.window.specs.Fits.{healthFits}

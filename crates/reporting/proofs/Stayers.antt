@@ -17,8 +17,7 @@ use Rattle.rules.specs.declared.State.{State}
 use Rattle.rules.specs.Sizes.{maxDestinations, maxJobs, maxEntries}
 use Rattle.rules.specs.State.{at, isFree, jobOf, destinationOf, usedOf}
 use Rattle.rules.specs.SoundFacts.{Sound}
-use Rattle.rules.proofs.EntryTests.{busy-used}
-use Rattle.rules.proofs.EntryFacts.{waiting-used}
+use Rattle.rules.proofs.EntryTests.{busy-used, waiting-used}
 use Rattle.rules.proofs.Soundness.{sound-facts}
 use Rattle.counting.specs.Counting.{countsTo, Paired}
 use Rattle.settling.specs.Settling.{putOffAt, PutOff}

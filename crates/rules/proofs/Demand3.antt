@@ -23,11 +23,10 @@ use Rattle.rules.specs.Calls.{Call, ask, granted, unlessRefused, replyTo
 use Rattle.rules.specs.Tally.{Tally, rowAt, rowOf, linkedRow}
 use Rattle.rules.specs.Run.{stateAfter}
 use Rattle.rules.specs.Demand3.{Ceilings, Demand3, Companions, Demand3Holds, costFor}
-use Rattle.rules.proofs.Shape.{Shaped}
+use Rattle.rules.proofs.Shape.{Shaped, present-below}
 use Rattle.rules.proofs.Soundness.{sound-of}
 use Rattle.rules.proofs.EntryTests.{used-not-free, used-job}
 use Rattle.rules.proofs.RangeFacts.{slots-range}
-use Rattle.rules.proofs.EntryFacts.{present-below}
 use Rattle.rules.proofs.Refused.{refusal-answered, sound-not-1}
 use Rattle.rules.proofs.Sim.{costIn}
 use Rattle.rules.proofs.SimRows.{row-inside}

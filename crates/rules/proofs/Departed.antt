@@ -24,10 +24,9 @@ use Rattle.rules.specs.State.{at, zeroList, listOf, listed, queueOf, isP
 use Rattle.rules.specs.Sound.{isJobOn}
 use Rattle.rules.specs.SoundFacts.{QueueSound, ArrivalsSound}
 use Rattle.rules.specs.Reporting.{stays, nearestStaying, parentAfter, departed}
-use Rattle.rules.proofs.Shape.{Shaped}
+use Rattle.rules.proofs.Shape.{Shaped, present-below}
 use Rattle.rules.proofs.EntryTests.{waits-used}
-use Rattle.rules.proofs.EntryFacts.{present-below}
-use Rattle.rules.proofs.TakenLists.{list-of-listed}
+use Rattle.rules.proofs.ListFacts.{list-of-listed}
 
 -- Who stays.
 

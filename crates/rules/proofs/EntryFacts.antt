@@ -1,29 +1,20 @@
--- What soundness says of entries that wait or are eligible, and of present jobs.
+-- What soundness says of entries that wait or are eligible.
 use Prim.Native.Nat.{ℕ, _≤_, _<_}
-use mathlib.Core.Bool.{true, false, _&&_}
+use mathlib.Core.Bool.{true, _&&_}
 use mathlib.Core.Path.{_≡_, refl}
-use native.Mathlib.Decide.{decLt}
-use native.Mathlib.Omega.{arith}
-use lib.ListN.{List·getD-eq-default}
 use lib.Dec.{eqb}
-use borrow.Author.Tests.{eqb-true, eq-eqb, ne-eqb}
-use Rattle.laws.proofs.Choice.{true-not-false, not-is-true, and-both, and-left, and-right}
+use borrow.Author.Tests.{eqb-true, eq-eqb}
+use Rattle.laws.proofs.Choice.{not-is-true, and-both, and-left, and-right}
 use Rattle.laws.proofs.All.{any-of, any-witness}
 use Rattle.laws.proofs.Count.{count-pos-of}
 use Rattle.rules.specs.declared.State.{State}
-use Rattle.rules.specs.Sizes.{maxJobs, maxEntries}
-use Rattle.rules.specs.State.{at, transportOf, isFree, isWaiting, isBusy, jobOf, destinationOf, isPresent, waitsOf, usedOf, waitingOf}
+use Rattle.rules.specs.Sizes.{maxEntries}
+use Rattle.rules.specs.State.{transportOf, isWaiting, jobOf, destinationOf, waitsOf, usedOf, waitingOf}
 use Rattle.rules.specs.SoundFacts.{EntrySound, Sound}
 use Rattle.rules.specs.Picking.{hasRoom, hasAgent, eligible, eligibleOf, hasEligible}
-use Rattle.rules.proofs.Shape.{Shaped, present-length}
+use Rattle.rules.proofs.EntryTests.{waiting-used}
 
 module _ (s : State) where
-  pub waiting-used : (e : ℕ) → isWaiting s e ≡ true → isFree s e ≡ false
-  waiting-used e h = ne-eqb (at (s .entries .kind) e) 0 (λ z. let k = eqb-true (at (s .entries .kind) e) 1 h in omega arith)
-
-  pub waiting-not-busy : (e : ℕ) → isWaiting s e ≡ true → isBusy s e ≡ false
-  waiting-not-busy e h = ne-eqb (at (s .entries .kind) e) 2 (λ z. let k = eqb-true (at (s .entries .kind) e) 1 h in omega arith)
-
   pub eligible-waits : (e : ℕ) → eligible s e ≡ true → isWaiting s e ≡ true
   unfolding eligible
   eligible-waits e h =
@@ -45,7 +36,7 @@ module _ (s : State) where
   pub waits-of-used : (j e : ℕ) → waitsOf s j e ≡ true → usedOf s j e ≡ true
   unfolding waitsOf usedOf
   waits-of-used j e h =
-      and-both (not-is-true (waiting-used e (and-left (isWaiting s e) (eqb (jobOf s e) j) h))) (and-right (isWaiting s e) (eqb (jobOf s e) j) h)
+      and-both (not-is-true (waiting-used s e (and-left (isWaiting s e) (eqb (jobOf s e) j) h))) (and-right (isWaiting s e) (eqb (jobOf s e) j) h)
 
   -- a job with an eligible entry has a waiting one
   pub has-eligible-waits : (j : ℕ) → hasEligible s j ≡ true → 1 ≤ waitingOf s j
@@ -59,11 +50,4 @@ module _ (s : State) where
   eligible-has e l ok = any-of (eligibleOf s (jobOf s e)) maxEntries e l (and-both ok (eq-eqb (jobOf s e) (jobOf s e) refl))
 
   pub eligible-sound : Sound s → (e : ℕ) → e < maxEntries → eligible s e ≡ true → EntrySound s e
-  eligible-sound h e l t = h .entries e l (waiting-used e (eligible-waits e t))
-
-  -- past the columns nobody is present
-  pub present-below : Shaped s → (j : ℕ) → isPresent s j ≡ true → j < maxJobs
-  present-below h j p = elim (decLt j maxJobs) [
-    | yes l ↦ l
-    | no l ↦ true-not-false p (List·getD-eq-default (s .jobs .present) false (omega (arith, present-length (h .jobs))))
-  ]
+  eligible-sound h e l t = h .entries e l (waiting-used s e (eligible-waits e t))

@@ -19,7 +19,7 @@ use Rattle.rules.specs.State.{at, transportOf, isFree, isWaiting, isBusy
 use Rattle.rules.specs.Sound.{busyOn, busyTo}
 use Rattle.rules.specs.Pick.{handedOut}
 use Rattle.rules.proofs.Shape.{Shaped, picked-length}
-use Rattle.rules.proofs.EntryFacts.{waiting-used, waiting-not-busy}
+use Rattle.rules.proofs.EntryTests.{waiting-not-busy, waiting-used}
 
 -- entry e of job j, at this place of its order, can be handed out on transport t
 pub record CanHandOut (w : State) (t j place e : ℕ) : Type 0 where

@@ -23,13 +23,12 @@ use Rattle.rules.specs.State.{parentOf}
 use Rattle.rules.specs.Sound.{busyOn, busyTo, isJobOn, orderOf}
 use Rattle.rules.specs.SoundFacts.{EntrySound, QueueSound, ArrivalsSound, ChildOf, JobSound, DestinationSound, Sound, SoundBesides}
 use Rattle.rules.specs.Reporting.{stays, nearestStaying, parentAfter, departed}
-use Rattle.rules.proofs.Shape.{Shaped, JobsShaped, present-length, parent-length}
+use Rattle.rules.proofs.Shape.{Shaped, JobsShaped, present-length, parent-length, present-below}
 use Rattle.rules.proofs.EntryTests.{used-of}
-use Rattle.rules.proofs.EntryFacts.{present-below}
-use Rattle.rules.proofs.TakenLists.{once-few}
 use Rattle.rules.proofs.Departed.{stays-present, stays-used, stays-of, departed-present, departed-parent-stays, departed-arrivals}
 use Rattle.rules.proofs.Departed.{departed-arrivals-once, departed-queue-list, departed-queue, departed-queue-list-other, departed-queue-other}
 use Rattle.rules.proofs.Departed.{departed-queue-once, departed-queue-once-other}
+use Rattle.rules.proofs.ListFacts.{once-few}
 
 module _ (s : State) (t : ℕ) (shaped : Shaped s) (sound : SoundBesides t s) (inside : t < s .setup .transports) where
   below-four : t < maxTransports

@@ -17,10 +17,10 @@ use Rattle.rules.specs.State.{at, transportOf, isFree, isWaiting, isBusy
 use Rattle.rules.specs.Sound.{busyOn, busyTo, isJobOn, orderOf}
 use Rattle.rules.specs.SoundFacts.{EntrySound, JobSound, DestinationSound, Sound}
 use Rattle.rules.specs.Pick.{handedOut}
-use Rattle.rules.proofs.Shape.{Shaped, picked-length, turn-length}
-use Rattle.rules.proofs.EntryFacts.{waiting-used, present-below}
+use Rattle.rules.proofs.Shape.{Shaped, picked-length, turn-length, present-below}
 use Rattle.rules.proofs.HandedOut.{CanHandOut, handed-free, handed-waiting-here, handed-waiting-other, handed-busy-here, handed-busy-other, handed-used}
 use Rattle.rules.proofs.HandedOut.{handed-waits-own, handed-waits-other, handed-busy-own, handed-busy-of-other, handed-busy-on, handed-busy-to}
+use Rattle.rules.proofs.EntryTests.{waiting-used}
 
 module _ (w : State) (t j place e : ℕ) (shape : Shaped w) (h : Sound w) (can : CanHandOut w t j place e) where
   used-entry : EntrySound w e

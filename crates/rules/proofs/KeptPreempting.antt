@@ -22,10 +22,10 @@ use Rattle.rules.specs.State.{at, settingsOf, zeroList, listOf, listed, 
 use Rattle.rules.specs.Sound.{busyOn, busyTo, isJobOn, orderOf, costOf}
 use Rattle.rules.specs.SoundFacts.{QueueSound, ChildOf, JobSound, Sound}
 use Rattle.rules.specs.Preemption.{addedTo, charged, preempting}
-use Rattle.rules.proofs.Shape.{Shaped, sold-length, parent-length, preempted-length, overtakers-length}
-use Rattle.rules.proofs.EntryFacts.{present-below}
-use Rattle.rules.proofs.Picked.{Current, queue-once, queue-holds}
+use Rattle.rules.proofs.Shape.{Shaped, sold-length, parent-length, preempted-length, overtakers-length, present-below}
+use Rattle.rules.proofs.Picked.{Current}
 use Rattle.rules.proofs.Preemptor.{Preempts}
+use Rattle.rules.proofs.ListFacts.{queue-holds, queue-once}
 
 -- The chain of parents.
 

@@ -24,8 +24,9 @@ use Rattle.rules.proofs.EntryTests.{SameEntry, same-free, same-waiting,
 use Rattle.rules.proofs.Taken.{Fits, present-other, Passed, fits-of, placeIn, taken-others, taken-new, new-order-few}
 use Rattle.rules.proofs.TakenEntries.{NewEntry, taken-entry, taken-busy-to, taken-busy-on}
 use Rattle.rules.proofs.TakenJobs.{jobs-taken, used-taken}
-use Rattle.rules.proofs.TakenLists.{once-few, taken-queue-list, taken-queue, taken-queue-list-other, taken-queue-other, taken-arrivals}
+use Rattle.rules.proofs.TakenLists.{taken-queue-list, taken-queue, taken-queue-list-other, taken-queue-other, taken-arrivals}
 use Rattle.rules.proofs.TakenLists.{taken-queue-once, taken-queue-once-other, taken-arrivals-once, taken-rising, taken-past}
+use Rattle.rules.proofs.ListFacts.{once-few}
 
 module _ (w : State) (j t now : ℕ) (kept : List ℕ) (shaped : Shaped w) (sound : Sound w) (fits : Fits w j t kept) where
   -- Shape.

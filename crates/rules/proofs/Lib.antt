@@ -6,12 +6,14 @@ pub mod Shape
 pub mod RangeFacts
 -- the tests on entries
 pub mod EntryTests
--- what soundness says of entries that wait or are eligible, and of present jobs
+-- what soundness says of entries that wait or are eligible
 pub mod EntryFacts
 -- the test of a job
 pub mod JobFacts
 -- the test of a state
 pub mod Soundness
+-- its lists
+pub mod ListFacts
 -- a window's step keeps its ranges
 pub mod WindowLaws
 -- turns that go round

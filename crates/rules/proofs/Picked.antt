@@ -12,34 +12,18 @@ use Rattle.laws.proofs.First.{first-any, first-holds}
 use Rattle.laws.proofs.Table.{length-table, getD-table}
 use Rattle.laws.proofs.Sequence.{holds-place, every-at}
 use Rattle.laws.proofs.Found.{first-of-in, first-of-passes, up-to-first}
-use Rattle.laws.proofs.Once.{EachOnce, once-facts, once-holds}
 use Rattle.rules.specs.declared.State.{State}
 use Rattle.rules.specs.Sizes.{maxJobs, maxEntries}
 use Rattle.rules.specs.State.{at, transportOf, queueOf, isWaiting, jobOf, destinationOf, isPresent, orderAt}
-use Rattle.rules.specs.Sound.{isJobOn, orderOf}
+use Rattle.rules.specs.Sound.{orderOf}
 use Rattle.rules.specs.SoundFacts.{JobSound, Sound}
 use Rattle.rules.specs.Picking.{eligible, eligibleOn, eligibleOf, eligibleTo, hasEligible, stepsTo, transportSteps, finds, nextTransport}
 use Rattle.rules.specs.Picking.{currentJob, nextPlace, nextEntry}
-use Rattle.rules.proofs.Shape.{Shaped}
+use Rattle.rules.proofs.Shape.{Shaped, present-below}
 use Rattle.rules.proofs.Turns.{steps-found, steps-holds, steps-below, steps-any}
 use Rattle.rules.proofs.EntryFacts.{eligible-has, eligible-waits, eligible-of-eligible, eligible-of-job, eligible-of-waits, waits-of-used}
-use Rattle.rules.proofs.EntryFacts.{eligible-sound, present-below}
-
--- A transport's list.
-
-pub queue-once : (w : State) (t : ℕ) → Sound w → t < w .setup .transports → EachOnce (isJobOn w t) maxJobs (queueOf w t)
-queue-once w t h l = once-facts (isJobOn w t) maxJobs (queueOf w t) (h .queues t l .once)
-
-pub queue-holds : (w : State) (t j : ℕ) → Shaped w → Sound w → t < w .setup .transports → isPresent w j ≡ true → at (w .jobs .transport) j ≡ t → holds j (queueOf w t) ≡ true
-unfolding isJobOn
-queue-holds w t j shape h l p e = once-holds (queue-once w t h l) j (present-below w shape j p) (and-both p (eq-eqb (at (w .jobs .transport) j) t e))
-
-pub queue-job : (w : State) (t j : ℕ) → Sound w → t < w .setup .transports → holds j (queueOf w t) ≡ true → (j < maxJobs) × (isPresent w j ≡ true) × (at (w .jobs .transport) j ≡ t)
-unfolding isJobOn
-queue-job w t j h l k =
-    let o = queue-once w t h l in
-    let b = o .passes j k in
-    (o .below j k, and-left (isPresent w j) (eqb (at (w .jobs .transport) j) t) b, eqb-true (at (w .jobs .transport) j) t (and-right (isPresent w j) (eqb (at (w .jobs .transport) j) t) b))
+use Rattle.rules.proofs.EntryFacts.{eligible-sound}
+use Rattle.rules.proofs.ListFacts.{queue-holds, queue-job}
 
 -- The transport.
 

@@ -26,8 +26,9 @@ use Rattle.rules.specs.Preemption.{longEnough, isPreempted, preemptorOf}
 use Rattle.rules.proofs.Shape.{Shaped}
 use Rattle.rules.proofs.RangeFacts.{slots-range}
 use Rattle.rules.proofs.EntryFacts.{has-eligible-waits}
-use Rattle.rules.proofs.Picked.{Current, queue-once, queue-holds}
+use Rattle.rules.proofs.Picked.{Current}
 use Rattle.rules.proofs.Candidates.{candidate-facts, Best, best-some}
+use Rattle.rules.proofs.ListFacts.{queue-holds, queue-once}
 
 -- Credit as plain numbers.
 

@@ -1,14 +1,18 @@
 -- The shape of a state: each column has as many places as its array.
 use Prim.Native.Nat.{ℕ, _<_}
 use mathlib.Core.Path.{_≡_, ap}
+use mathlib.Core.Bool.{true, false}
 use mathlib.Core.List.{List, [], _∷_}
-use lib.ListN.{length, getD}
+use native.Mathlib.Decide.{decLt}
+use native.Mathlib.Omega.{arith}
+use lib.ListN.{length, getD, List·getD-eq-default}
+use Rattle.laws.proofs.Choice.{true-not-false}
 use Rattle.rules.specs.declared.Busy.{Busy}
 use Rattle.rules.specs.declared.Jobs.{Jobs}
 use Rattle.rules.specs.declared.Entries.{Entries}
 use Rattle.rules.specs.declared.State.{State}
 use Rattle.rules.specs.Sizes.{maxTransports, maxDestinations, maxJobs, maxEntries}
-use Rattle.rules.specs.State.{at, zeroList}
+use Rattle.rules.specs.State.{at, zeroList, isPresent}
 use Rattle.rules.specs.Setup.{noJobs}
 
 pub record BusyShaped (b : Busy) : Type 0 where
@@ -91,3 +95,10 @@ pub record Shaped (s : State) : Type 0 where
   pub arrivals : length (s .arrivals .jobs) ≡ maxJobs
   pub jobs : JobsShaped (s .jobs)
   pub entries : EntriesShaped (s .entries)
+
+-- past the columns nobody is present
+pub present-below : (s : State) → Shaped s → (j : ℕ) → isPresent s j ≡ true → j < maxJobs
+present-below s h j p = elim (decLt j maxJobs) [
+  | yes l ↦ l
+  | no l ↦ true-not-false p (List·getD-eq-default (s .jobs .present) false (omega (arith, present-length (h .jobs))))
+]

@@ -23,8 +23,7 @@ use Rattle.rules.specs.State.{at, isPresent, parentOf}
 use Rattle.rules.specs.SoundFacts.{Sound}
 use Rattle.rules.specs.Preemption.{preempting, charged, addedTo}
 use Rattle.rules.specs.Tally.{Tally, rowAt, rowOf}
-use Rattle.rules.proofs.Shape.{Shaped, overtakers-length}
-use Rattle.rules.proofs.EntryFacts.{present-below}
+use Rattle.rules.proofs.Shape.{Shaped, overtakers-length, present-below}
 use Rattle.rules.proofs.KeptPreempting.{parent-present, chain-ends}
 use Rattle.rules.proofs.Sim.{costIn, presentRow, jobLink, JobIs, Sim}
 use Rattle.rules.proofs.SimRows.{row-inside, present-row-is}

@@ -22,9 +22,8 @@ use Rattle.rules.specs.declared.State.{State}
 use Rattle.rules.specs.State.{at, isPresent, waitingOf}
 use Rattle.rules.specs.Pick.{handedOut}
 use Rattle.rules.specs.Tally.{Row, Tally, rowAt, rowOf, noting, withPickAt}
-use Rattle.rules.proofs.Shape.{Shaped}
+use Rattle.rules.proofs.Shape.{Shaped, present-below}
 use Rattle.rules.proofs.Rows.{row-of-is}
-use Rattle.rules.proofs.EntryFacts.{present-below}
 use Rattle.rules.proofs.HandedOut.{CanHandOut, handed-waits-own, handed-waits-other, handed-picked-own, handed-picked-other}
 use Rattle.rules.proofs.Sim.{presentRow, jobLink, Ahead, RowIs, JobIs, Sim}
 use Rattle.rules.proofs.SimRows.{rows-apart, present-of, same-row-of, same-link, same-present, row-same, row-other, row-field}

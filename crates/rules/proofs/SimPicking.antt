@@ -31,7 +31,7 @@ use Rattle.rules.specs.Calls.{pickingDecision}
 use Rattle.rules.specs.Tally.{Row, Tally, rowAt, rowOf, naming, overtaken, withPreemption, preemptedRows, withPickAt, withPick, tallied}
 use Rattle.rules.proofs.Shape.{Shaped}
 use Rattle.rules.proofs.EntryFacts.{has-eligible-waits}
-use Rattle.rules.proofs.Picked.{Current, queue-once, queue-holds, queue-job}
+use Rattle.rules.proofs.Picked.{Current}
 use Rattle.rules.proofs.Preemptor.{Preempts}
 use Rattle.rules.proofs.KeptPreempting.{kept-preempting}
 use Rattle.rules.proofs.Preempted.{preempting-queue-own, preempting-eligible}
@@ -41,6 +41,7 @@ use Rattle.rules.proofs.SimRows.{job-is, row-inside, present-row-is, sa
 use Rattle.rules.proofs.SimPick.{sim-handed-out}
 use Rattle.rules.proofs.SimTally.{Alike, alike-jobs, alike-transport, preempted-alike}
 use Rattle.rules.proofs.SimPreempt.{sim-preempting}
+use Rattle.rules.proofs.ListFacts.{queue-holds, queue-job, queue-once}
 
 -- the rows that a pick goes past: of the waiting jobs before the current job b
 unfoldable pub wentPast : State → List Row → ℕ → ℕ → ℕ → Bool

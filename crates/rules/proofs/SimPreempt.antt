@@ -31,7 +31,7 @@ use Rattle.rules.specs.SoundFacts.{Sound}
 use Rattle.rules.specs.Preemption.{preempting}
 use Rattle.rules.specs.Tally.{Row, Tally, rowAt, rowOf, naming, overtaken}
 use Rattle.rules.proofs.Shape.{Shaped}
-use Rattle.rules.proofs.Picked.{Current, queue-once}
+use Rattle.rules.proofs.Picked.{Current}
 use Rattle.rules.proofs.Preemptor.{Preempts}
 use Rattle.rules.proofs.Sim.{costIn, presentRow, jobLink, Ahead, RowIs, JobIs, Sim}
 use Rattle.rules.proofs.SimRows.{job-is, row-inside, rows-apart, present-of, same-row-of, same-link, same-present}
@@ -40,6 +40,7 @@ use Rattle.rules.proofs.SimTally.{Alike, alike-jobs, naming-alike, nami
 use Rattle.rules.proofs.SimOvertaking.{over-after}
 use Rattle.rules.proofs.Preempted.{preempting-waits, preempting-queue-own, preempting-queue-other, preempting-sold-own, preempting-sold-other}
 use Rattle.rules.proofs.Preempted.{preempting-parent-own, preempting-parent-other, preempting-marked-own, preempting-marked-other}
+use Rattle.rules.proofs.ListFacts.{queue-once}
 
 module _ {u : Setup} {w : State} {y : Tally} {g : Columns} (m : Sim u w y g) (shaped : Shaped w) (sound : Sound w) (now t b x bi xi : ℕ)
     (below : t < w .setup .transports) (cur : Current w t b) (p : Preempts w now t b x) (eb : rowOf (y .rows) b ≡ suc bi)

@@ -26,8 +26,7 @@ use Rattle.rules.specs.State.{at, queueOf, isPresent, isBusy, waitingOf,
 use Rattle.rules.specs.SoundFacts.{Sound}
 use Rattle.rules.specs.Reporting.{settled, stays, nearestStaying}
 use Rattle.rules.specs.Tally.{Tally, rowAt, rowOf}
-use Rattle.rules.proofs.Shape.{Shaped}
-use Rattle.rules.proofs.EntryFacts.{present-below}
+use Rattle.rules.proofs.Shape.{Shaped, present-below}
 use Rattle.rules.proofs.ReportedFacts.{settledBy, reportedBy, ReportLeaves, report-leaves, reported-waiting-le, reported-was-present}
 use Rattle.rules.proofs.ReportedFacts.{left-waiting, reported-queue, stays-are-present, reported-parent}
 use Rattle.rules.proofs.Rows.{row-of-is}

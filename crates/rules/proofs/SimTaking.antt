@@ -39,10 +39,10 @@ use Rattle.rules.proofs.Shape.{Shaped}
 use Rattle.rules.proofs.Taken.{Fits, taken-others, taken-new, present-other}
 use Rattle.rules.proofs.TakenEntries.{taken-waiting-new, taken-waiting-other}
 use Rattle.rules.proofs.TakenLists.{taken-queue, taken-queue-other}
-use Rattle.rules.proofs.Picked.{queue-job}
 use Rattle.rules.proofs.Rows.{row-of-new, row-of-old}
 use Rattle.rules.proofs.Sim.{presentRow, jobLink, Ahead, RowIs, JobIs, Sim}
 use Rattle.rules.proofs.SimRows.{row-inside, present-of}
+use Rattle.rules.proofs.ListFacts.{queue-job}
 
 module _ {u : Setup} {w : State} {y : Tally} {g : Columns} (m : Sim u w y g) (j t now : ℕ) (kept : List ℕ) (shaped : Shaped w) (sound : Sound w)
     (fits : Fits w j t kept) where

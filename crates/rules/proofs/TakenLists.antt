@@ -2,19 +2,18 @@
 use Prim.Native.Nat.{ℕ, _≤_, _<_}
 use mathlib.Core.Path.{_≡_, refl, sym, _∙_, ap}
 use mathlib.Core.Logic.{_≢_, ⊎-elim}
-use mathlib.Core.Bool.{Bool, true, false}
+use mathlib.Core.Bool.{true, false}
 use mathlib.Core.List.{List, [], _∷_, _++_}
 use native.Mathlib.Omega.{arith}
 use native.Mathlib.Decide.{ℕ-discrete}
-use lib.ListN.{length, getD}
+use lib.ListN.{getD}
 use lib.Seq.{getD-set-same, getD-set-other}
 use lib.Dec.{eqb}
 use borrow.Author.Tests.{eq-eqb, ne-eqb}
 use Rattle.laws.specs.Sequence.{holds, neverFalling}
 use Rattle.laws.proofs.Choice.{true-not-false, and-both, and-left-false, and-right-false}
-use Rattle.laws.proofs.Count.{count-le-bound}
-use Rattle.laws.proofs.Sequence.{take-padded, holds-append-cases, holds-cases}
-use Rattle.laws.proofs.Once.{EachOnce, once-facts, once-append, once-same, once-length}
+use Rattle.laws.proofs.Sequence.{holds-append-cases, holds-cases}
+use Rattle.laws.proofs.Once.{EachOnce, once-append, once-same}
 use Rattle.laws.proofs.Falling.{falling-same, falling-last}
 use Rattle.rules.specs.declared.State.{State}
 use Rattle.rules.specs.Sizes.{maxJobs, maxTransports}
@@ -24,21 +23,7 @@ use Rattle.rules.specs.SoundFacts.{Sound}
 use Rattle.rules.specs.Taking.{taken}
 use Rattle.rules.proofs.Shape.{Shaped}
 use Rattle.rules.proofs.Taken.{Fits, present-other, taken-others, taken-new}
-
--- the list that is written is the one that is read
-pub list-of-listed : (l : List ℕ) → listOf (listed l) ≡ l
-list-of-listed l = take-padded maxJobs l
-
--- a list of jobs, once each, has at most 32
-pub once-few : {p : ℕ → Bool} {l : List ℕ} → EachOnce p maxJobs l → length l ≤ maxJobs
-once-few {p} {l} r = rw (once-length p maxJobs l r) (count-le-bound p maxJobs)
-
--- a sound queue as facts
-pub queue-once : (s : State) → Sound s → (t : ℕ) → t < s .setup .transports → EachOnce (isJobOn s t) maxJobs (queueOf s t)
-queue-once s r t l = once-facts (isJobOn s t) maxJobs (queueOf s t) (r .queues t l .once)
-
-pub arrivals-once : (s : State) → Sound s → EachOnce (isPresent s) maxJobs (listOf (s .arrivals))
-arrivals-once s r = once-facts (isPresent s) maxJobs (listOf (s .arrivals)) (r .arrivals .once)
+use Rattle.rules.proofs.ListFacts.{list-of-listed, queue-once, arrivals-once}
 
 module _ (w : State) (j t now : ℕ) (kept : List ℕ) (shaped : Shaped w) (sound : Sound w) (fits : Fits w j t kept) where
   below-four : t < maxTransports
@@ -88,12 +73,12 @@ module _ (w : State) (j t now : ℕ) (kept : List ℕ) (shaped : Shaped w) (soun
 
   pub taken-queue-once : EachOnce (isJobOn (taken w j t now kept) t) maxJobs (queueOf w t ++ (j ∷ []))
   taken-queue-once =
-      once-append (isJobOn (taken w j t now kept) t) j (queue-once w sound t (fits .transport)) (fits .number) (absent-on t) taken-on-new
+      once-append (isJobOn (taken w j t now kept) t) j (queue-once w t sound (fits .transport)) (fits .number) (absent-on t) taken-on-new
       λ z l ne. sym (taken-on-other t z ne)
 
   pub taken-queue-once-other : (u : ℕ) → u ≢ t → u < w .setup .transports → EachOnce (isJobOn (taken w j t now kept) u) maxJobs (queueOf w u)
   taken-queue-once-other u ne l =
-      once-same (isJobOn (taken w j t now kept) u) (queue-once w sound u l) λ z k. elim (ℕ-discrete z j) [
+      once-same (isJobOn (taken w j t now kept) u) (queue-once w u sound l) λ z k. elim (ℕ-discrete z j) [
         | yes e ↦ rw e (absent-on u ∙ sym (taken-off-new u ne))
         | no nz ↦ sym (taken-on-other u z nz)
       ]

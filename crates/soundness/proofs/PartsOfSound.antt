@@ -22,8 +22,7 @@ use Rattle.rules.specs.State.{jobOf, destinationOf, isPresent, hasPreempted, wa
 use Rattle.rules.specs.Setup.{setupInRange}
 use Rattle.rules.specs.Sound.{implies, isJobOn, orderOf, costOf, sound}
 use Rattle.rules.specs.SoundFacts.{EntrySound, ChildOf, DestinationSound}
-use Rattle.rules.proofs.Shape.{Shaped}
-use Rattle.rules.proofs.EntryFacts.{present-below}
+use Rattle.rules.proofs.Shape.{Shaped, present-below}
 use Rattle.rules.proofs.RangeFacts.{within-of, implies-of, in-range-of, sums-fit-of}
 use Rattle.rules.proofs.Soundness.{sound-facts}
 use Rattle.counting.specs.declared.EntryCounts.{EntryCounts}

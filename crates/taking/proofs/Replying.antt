@@ -30,7 +30,6 @@ use Rattle.rules.specs.Refusals.{isDestinationOn}
 use Rattle.rules.specs.Calls.{Reply, granted, written, takingReply}
 use Rattle.rules.proofs.Soundness.{sound-facts}
 use Rattle.rules.proofs.Taken.{Fits, Passed, fits-of, new-below, new-absent, new-room}
-use Rattle.rules.proofs.TakenLists.{queue-once, arrivals-once}
 use Rattle.rules.proofs.Accepted.{JobAccepted, passed-of}
 use Rattle.rules.proofs.KeptWaking.{woken-setup}
 use Rattle.admission.specs.Admission.{deadOn, onTransport, freeIn}
@@ -38,6 +37,7 @@ use Rattle.newjob.specs.NewJob.{Parted}
 use Rattle.newjob.specs.declared.Parts.{Parts}
 use Rattle.admission.proofs.Refusing.{Small, small-of, kept-by-is, put-off-by-is}
 use Rattle.newjob.proofs.Filling.{filled-same}
+use Rattle.rules.proofs.ListFacts.{arrivals-once, queue-once}
 
 -- The two replies.
 
@@ -210,7 +210,7 @@ module _ {s : State} {now t : ℕ} {dests list after : List ℕ} {r : Parts} (f 
           let l = f .accepted .transport in
           let j = newNumber (woken s now) in
           let other = and-left-false (eqb (at (s .jobs .transport) j) t) absent in
-          rw same-queue (h .queues t l .count, room-in (isJobOn s t) j (queueOf s t) (queue-once s h t l) (number-small j refl) other)
+          rw same-queue (h .queues t l .count, room-in (isJobOn s t) j (queueOf s t) (queue-once s t h l) (number-small j refl) other)
 
       pub queue-is : (j : ℕ) (q : JobList) → q ≡ listed (listOf (getD (s .queues) t z) ++ (j ∷ [])) → q ≡ listed (queueOf s t ++ (j ∷ []))
       queue-is j q e = e ∙ ap (λ v. listed (listOf v ++ (j ∷ []))) same-queue
