@@ -1,8 +1,9 @@
 -- What the tables of the pass over the entries count, in the words of a state.
-use Prim.Native.Nat.{ℕ, _<_}
+use Prim.Native.Nat.{ℕ, _+_, _≤_, _<_}
 use mathlib.Core.Bool.{Bool, _&&_}
 use mathlib.Core.Path.{_≡_}
 use mathlib.Core.List.{List}
+use native.Mathlib.Omega.{arith}
 use lib.Dec.{eqb}
 use Rattle.laws.specs.Range.{countTo}
 use Rattle.rules.specs.declared.State.{State}
@@ -38,3 +39,11 @@ module _ (s : State) (table : List Bool) (r : EntryCounts) (tables : Tables (col
   pub on-is : (t : ℕ) → t < 4 → at (r .on) t ≡ countTo (busyOn s t) 512
   unfolding countsTo busyOn
   on-is t l = tables .on .counts t l
+
+-- the two sizes that a comparison of tables asks for, and a sum of two counts, over plain numbers
+
+pub few : {n a b size : ℕ} → n ≤ size → a ≡ size → b ≡ size → (n ≤ a) × (n ≤ b)
+few l p q = (omega arith, omega arith)
+
+pub sum-small : {a b : ℕ} → a ≤ 512 → b ≤ 512 → a + b < 65536
+sum-small p q = omega arith

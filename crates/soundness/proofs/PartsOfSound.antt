@@ -1,4 +1,4 @@
--- Each test over columns holds of a sound state.
+-- Each test over columns holds of a sound state, so that the answer is no where one fails.
 use Prim.Native.Nat.{ℕ, zero, suc, _+_, _*_, _≤_, _<_}
 use mathlib.Core.Bool.{Bool, true, false, not, _&&_}
 use mathlib.Core.Path.{_≡_, refl, sym, _∙_}
@@ -10,7 +10,7 @@ use lib.ListN.{getD}
 use borrow.Author.Tests.{eqb-true, lt-ltb, le-leb, eq-eqb, not-true}
 use Rattle.laws.specs.Range.{allTo, anyTo}
 use Rattle.laws.specs.Sequence.{holds, timesIn, everyIn, holdsEachOnce, neverFalling}
-use Rattle.laws.proofs.Choice.{case-bool, false-of, and-both, and-left, and-right, or-left, or-right, not-is-true, eqb-self}
+use Rattle.laws.proofs.Choice.{true-not-false, case-bool, false-of, and-both, and-left, and-right, or-left, or-right, not-is-true, eqb-self}
 use Rattle.laws.proofs.All.{all-from, any-witness}
 use Rattle.laws.proofs.Count.{count-pos-of, count-none}
 use Rattle.laws.proofs.Sequence.{every-from}
@@ -28,7 +28,7 @@ use Rattle.rules.proofs.Soundness.{sound-facts}
 use Rattle.counting.specs.declared.EntryCounts.{EntryCounts}
 use Rattle.listing.specs.Listing.{orderList, distinct, orderTest, queueTest}
 use Rattle.clauses.specs.Clauses.{countsTest, soldTest, childTest, jobTest, healthTest, destinationTest}
-use Rattle.counting.specs.Counting.{belongsAt, belongsTest, entryTest, Tables}
+use Rattle.counting.specs.Counting.{belongsAt, belongsTest, entryTest, Tables, noPairs, Pairs}
 use Rattle.soundness.proofs.Counted.{columnsOf, waiting-is, busy-is, held-is, to-is, on-is}
 
 module _ (s : State) where
@@ -199,3 +199,12 @@ module _ (s : State) (table : List Bool) (r : EntryCounts) (tables : Tables (col
       let f = sound-facts s h in
       all-from (destinationTest (s .setup) (s .destinations) (r .held)) (s .setup .destinations) λ d l.
       health-of d (omega (arith, f .setup .destinations .1)) (healthOf s d) refl (f .destinations d l)
+
+-- Where a test fails that a sound state passes, the answer is no, and the table of what waits is as it came.
+
+pub empty : {r : Bool} {kind job destination table : List ℕ} → r ≡ false → table ≡ noPairs → Pairs r kind job destination table
+empty f e = record { counted = λ t. true-not-false t f; none = λ _. e }
+
+pub answers-no : (s : State) {test passed r : Bool} {kind job destination table : List ℕ} → (sound s ≡ true → passed ≡ true) → test ≡ passed → test ≡ false
+    → (r ≡ false) × (table ≡ noPairs) → (r ≡ sound s) × Pairs r kind job destination table
+answers-no s part e f n = (n .0 ∙ sym (false-of λ h. true-not-false (part h) (sym e ∙ f)), empty (n .0) (n .1))

@@ -1,10 +1,10 @@
--- `soundness::sound_with` meets its contract: each false answer contradicts a fact of a sound state; where all parts are right, the last part decides. The table is that of the pass over the entries.
+-- `soundness::sound_with` meets its contract: each false answer contradicts a fact of a sound state; where all parts are right, the last part
+-- decides. The table is that of the pass over the entries.
 use native.Mathlib.Omega.{arith}
 use mathlib.Core.Path.{_≡_, refl, sym, _∙_}
-use Prim.Native.Nat.{ℕ, _+_, _≤_, _<_}
-use mathlib.Core.Bool.{Bool, true, false}
-use mathlib.Core.List.{List}
-use lib.ListN.{length, length-replicate, getD-replicate}
+use Prim.Native.Nat.{_≤_}
+use mathlib.Core.Bool.{true, false}
+use lib.ListN.{length-replicate, getD-replicate}
 use borrow.Author.Tests.{not-true, not-false}
 use Rattle.laws.proofs.Choice.{true-not-false, false-of}
 use Rattle.listing.proofs.ListLaws.{listed-below}
@@ -12,13 +12,13 @@ use Rattle.rules.specs.declared.State.{State}
 use Rattle.rules.specs.Setup.{setupInRange}
 use Rattle.rules.specs.Sound.{sound}
 use Rattle.counting.specs.declared.EntryCounts.{EntryCounts}
-use Rattle.counting.specs.Counting.{noPairs, Pairs}
 use Rattle.counting.proofs.EntryLaws.{counts-within}
 use Rattle.rules.proofs.Shape.{Shaped, present-length}
 use Rattle.rules.proofs.RangeFacts.{home-below}
 use Rattle.columns.proofs.Shapes.{shaped}
 use Rattle.clauses.proofs.Ranges.{transports-few, destinations-few}
-use Rattle.soundness.proofs.PartsOfSound.{part-range, part-turn, part-orders, part-entries, part-on, part-to, part-jobs, part-queues, part-arrivals, part-rising}
+use Rattle.soundness.proofs.Counted.{few, sum-small}
+use Rattle.soundness.proofs.PartsOfSound.{empty, answers-no, part-range, part-turn, part-orders, part-entries, part-on, part-to, part-jobs, part-queues, part-arrivals, part-rising}
 use Rattle.soundness.proofs.SoundOfParts.{whole}
 use borrow.Author.Needs.{needs}
 use Rattle.soundness.proofs.sound_with.Statement.{statement}
@@ -106,22 +106,6 @@ ranged c = in-range (past-range (marked c))
 shape : (c : tie.Start) → Shaped (c .args .s)
 shape c = shaped (c .args .s) (c .good .0)
 
--- where the answer is no, the table is as it came
-empty : {r : Bool} {kind job destination table : List ℕ} → r ≡ false → table ≡ noPairs → Pairs r kind job destination table
-empty f e = record { counted = λ t. true-not-false t f; none = λ _. e }
-
--- the answer is no where a test fails that a sound state passes
-answers-no : (s : State) {test passed r : Bool} {kind job destination table : List ℕ} → (sound s ≡ true → passed ≡ true) → test ≡ passed → test ≡ false
-    → (r ≡ false) × (table ≡ noPairs) → (r ≡ sound s) × Pairs r kind job destination table
-answers-no s part e f n = (n .0 ∙ sym (false-of λ h. true-not-false (part h) (sym e ∙ f)), empty (n .0) (n .1))
-
--- the two sizes that a comparison of tables asks for, and a sum of two counts, over plain numbers
-few : {n a b size : ℕ} → n ≤ size → a ≡ size → b ≡ size → (n ≤ a) × (n ≤ b)
-few l p q = (omega arith, omega arith)
-
-within-16 : {a b : ℕ} → a ≤ 512 → b ≤ 512 → a + b < 65536
-within-16 p q = omega arith
-
 -- the turn names a transport that is there
 turn-there : (c : tie.Else3) → begun c .args .s .turn ≤ begun c .args .s .setup .transports
 turn-there c =
@@ -206,7 +190,7 @@ returns-6 c =
 
 jobs-right-requires : tie.Need-jobs-right-requires
 jobs-right-requires c κs = λ j l.
-    within-16 (counts-within _ _ _ _ _ _ (counting (counted6 c) .count-entries .ensures .0 .tables (all-good (counted6 c)) .waiting) j l)
+    sum-small (counts-within _ _ _ _ _ _ (counting (counted6 c) .count-entries .ensures .0 .tables (all-good (counted6 c)) .waiting) j l)
     (counts-within _ _ _ _ _ _ (counting (counted6 c) .count-entries .ensures .0 .tables (all-good (counted6 c)) .busy) j l)
 
 unsound-requires-3 : tie.Need-unsound-requires-3
