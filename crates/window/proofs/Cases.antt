@@ -23,7 +23,12 @@ pub raised-above : (g : Settings) (u : Sums) (success w : ℕ) → U ≤ success
 unfolding raised if_then_else_
 raised-above g u success w l e = rw (le-leb U success l, e)
 
-pub success-grows : (g : Settings) (busy : ℕ) (u r : Sums) (b : ℕ) → u .window < busy + g .initial → b ≡ feedback (g .positive) (u .window) → r ≡ raised g u (u .success + b) → r ≡ liveAfterSuccess g busy u
+pub success-grows :
+    (g : Settings) (busy : ℕ) (u r : Sums) (b : ℕ)
+    → u .window < busy + g .initial
+    → b ≡ feedback (g .positive) (u .window)
+    → r ≡ raised g u (u .success + b)
+    → r ≡ liveAfterSuccess g busy u
 unfolding liveAfterSuccess if_then_else_
 success-grows g busy u r b l e h = rw (lt-ltb (u .window) (busy + g .initial) l, ← e) h
 
@@ -51,7 +56,12 @@ pub failure-kills : (g : Settings) (now : ℕ) (u : Sums) (cohorts : ℕ) → co
 unfolding liveAfterFailure isDeadAt if_then_else_
 failure-kills g now u cohorts l = rw (lt-ltb (cohortBound g) cohorts l)
 
-pub failure-spares : (g : Settings) (now : ℕ) (u r : Sums) (cohorts b : ℕ) → cohorts ≤ cohortBound g → b ≡ feedback (g .negative) (u .window) → r ≡ lowered u b cohorts → Live r ≡ liveAfterFailure g now u cohorts
+pub failure-spares :
+    (g : Settings) (now : ℕ) (u r : Sums) (cohorts b : ℕ)
+    → cohorts ≤ cohortBound g
+    → b ≡ feedback (g .negative) (u .window)
+    → r ≡ lowered u b cohorts
+    → Live r ≡ liveAfterFailure g now u cohorts
 unfolding liveAfterFailure isDeadAt if_then_else_
 failure-spares g now u r cohorts b l e h = rw (le-ltb (cohortBound g) cohorts l, ← e, h)
 

@@ -7,7 +7,8 @@ use Rattle.boundaries.proofs.run.Statement.{statement}
 use Rattle.boundaries.proofs.run.Tie as tie
 
 abbrev Inv-loop : tie.InvT-loop
-Inv-loop cases words₀ list₀ written₀ out₀ n desk₀ at₀ words list written out desk at = (length words ≡ length words₀) × (length list ≡ length list₀) × (length written ≡ length written₀) × (length out ≡ length out₀) × (n ≤ length cases)
+Inv-loop cases words₀ list₀ written₀ out₀ n desk₀ at₀ words list written out desk at =
+    (length words ≡ length words₀) × (length list ≡ length list₀) × (length written ≡ length written₀) × (length out ≡ length out₀) × (n ≤ length cases)
 
 abbrev μ-loop : tie.MeasureT-loop
 μ-loop cases words₀ list₀ written₀ out₀ n desk₀ at₀ words list written out desk at = n - at

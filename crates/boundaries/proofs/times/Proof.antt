@@ -6,7 +6,8 @@ use Rattle.boundaries.proofs.times.Statement.{statement}
 use Rattle.boundaries.proofs.times.Tie as tie
 
 abbrev Inv-loop : tie.InvT-loop
-Inv-loop count line words₀ list₀ written₀ out₀ r₀ left₀ words list written out r left = (length words ≡ length words₀) × (length list ≡ length list₀) × (length written ≡ length written₀) × (length out ≡ length out₀)
+Inv-loop count line words₀ list₀ written₀ out₀ r₀ left₀ words list written out r left =
+    (length words ≡ length words₀) × (length list ≡ length list₀) × (length written ≡ length written₀) × (length out ≡ length out₀)
 
 abbrev μ-loop : tie.MeasureT-loop
 μ-loop count line words₀ list₀ written₀ out₀ r₀ left₀ words list written out r left = left

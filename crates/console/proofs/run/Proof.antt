@@ -7,7 +7,8 @@ use Rattle.console.proofs.run.Statement.{statement}
 use Rattle.console.proofs.run.Tie as tie
 
 abbrev Inv-loop : tie.InvT-loop
-Inv-loop line₀ words₀ state₀ h₀ seen₀ left₀ line words state h seen left = (0 < length line) × (length line ≡ length line₀) × (length words ≡ length words₀) × (h .start ≤ seen) × (seen ≤ h .have) × (h .have ≤ length line)
+Inv-loop line₀ words₀ state₀ h₀ seen₀ left₀ line words state h seen left =
+    (0 < length line) × (length line ≡ length line₀) × (length words ≡ length words₀) × (h .start ≤ seen) × (seen ≤ h .have) × (h .have ≤ length line)
 
 abbrev μ-loop : tie.MeasureT-loop
 μ-loop line₀ words₀ state₀ h₀ seen₀ left₀ line words state h seen left = left

@@ -21,7 +21,8 @@ within-requires-5 c κs = search needs
 
 returns : tie.Need-returns
 returns c =
-    slots-joined (c .before .before .before .before .before .before .args .g) (c .before .before .before .before .before .within .ensures) (c .before .before .before .within2 .ensures) (c .before .before .within3 .ensures)
+    let first = c .before .before .before .before .before in
+    slots-joined (first .before .args .g) (first .within .ensures) (c .before .before .before .within2 .ensures) (c .before .before .within3 .ensures)
     (c .before .within4 .ensures) (c .within5 .ensures)
 
 pub slots-in-range-spec : {M : Type 1} → statement M

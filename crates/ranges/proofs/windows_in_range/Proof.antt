@@ -24,7 +24,8 @@ within-requires-4 c κs = search needs
 
 returns : tie.Need-returns
 returns c =
-    windows-joined (c .before .before .before .before .before .before .before .before .args .g) (c .before .before .before .before .before .within .ensures) (c .before .before .before .before .within2 .ensures)
+    let first = c .before .before .before .before .before in
+    windows-joined (first .before .before .before .args .g) (first .within .ensures) (c .before .before .before .before .within2 .ensures)
     (c .before .before .before .feedback-in-range .ensures) (c .before .before .feedback-in-range2 .ensures) (c .before .within3 .ensures) (c .within4 .ensures)
 
 pub windows-in-range-spec : {M : Type 1} → statement M

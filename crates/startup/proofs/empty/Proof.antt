@@ -21,7 +21,8 @@ no-entries-requires c κs = search needs
 
 returns : tie.Need-returns
 returns c =
-    nothing-yet (c .before .before .before .before .before .args .u) (c .before .before .before .before .before .args .ds) (c .before .before .before .no-busy .ensures) (c .before .before .before .before .no-list .ensures)
+    let b = c .before .before .before .before .before in
+    nothing-yet (b .args .u) (b .args .ds) (c .before .before .before .no-busy .ensures) (c .before .before .before .before .no-list .ensures)
     (c .before .before .no-list2 .ensures) (c .before .no-jobs .ensures) (c .no-entries .ensures)
 
 pub empty-spec : {M : Type 1} → statement M

@@ -48,7 +48,9 @@ loop-less : tie.Need-loop-less Inv-loop μ-loop
 loop-less c = omega arith
 
 loop-again : tie.Need-loop-again Inv-loop μ-loop
-loop-again c = (first-written _ _ _ _ (c .before .before .before .before .loop .inv .0) (c .before .before .before .loop-test .taken) (omega arith) (c .first-state .ensures), omega arith, c .before .before .before .before .loop .inv .2)
+loop-again c =
+    let inv = c .before .before .before .before .loop .inv in
+    (first-written _ _ _ _ (inv .0) (c .before .before .before .loop-test .taken) (omega arith) (c .first-state .ensures), omega arith, inv .2)
 
 returns : tie.Need-returns Inv-loop μ-loop
 returns c = c .before .loop .inv .0 ∙ first-all _ _ (omega arith) (omega arith)

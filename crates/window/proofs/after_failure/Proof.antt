@@ -1,11 +1,24 @@
 -- By the two cases of the health; only a live one has a window to divide by. Assumes nothing.
 use borrow.Author.Needs.{needs}
+use mathlib.Core.Path.{_≡_}
+use mathlib.Core.Bool.{true}
 use native.Mathlib.Omega.{arith}
+use Rattle.rules.specs.Sound.{sumsFit}
 use Rattle.rules.proofs.RangeFacts.{sums-fit-facts}
 use Rattle.window.proofs.WindowLaws.{live-fits, cohorts-sum}
 use Rattle.window.proofs.Cases.{failure-live, failure-dead}
 use Rattle.window.proofs.after_failure.Statement.{statement}
 use Rattle.window.proofs.after_failure.Tie as tie
+
+-- a live one: its case, and the start, seen from where its cohorts are known
+abbrev live : tie.After-struct-known → tie.After-h
+live c = c .before .before .before
+
+abbrev start : tie.After-struct-known → tie.Start
+start c = live c .before .before
+
+sums-fit : (c : tie.After-struct-known) → sumsFit (start c .args .g) (live c .h .given .0 .0) ≡ true
+sums-fit c = live-fits _ _ _ (live c .h .given .1) (start c .pre .1)
 
 enum-known-h : tie.Need-enum-known-h
 enum-known-h c = search needs
@@ -14,10 +27,10 @@ cohort-share-requires : tie.Need-cohort-share-requires
 cohort-share-requires c κs = sums-fit-facts _ _ (live-fits _ _ _ (c .before .h .given .1) (c .before .before .before .pre .1)) .window .0
 
 add-cohorts : tie.Need-add-cohorts
-add-cohorts c = omega (arith, cohorts-sum _ _ (c .before .before .before .before .before .pre .0) (live-fits _ _ _ (c .before .before .before .h .given .1) (c .before .before .before .before .before .pre .1)) _ (c .before .cohort-share .ensures))
+add-cohorts c = omega (arith, cohorts-sum _ _ (start c .pre .0) (sums-fit c) _ (c .before .cohort-share .ensures))
 
 live-after-failure-requires : tie.Need-live-after-failure-requires
-live-after-failure-requires c κs = (c .before .before .before .before .before .pre .0, live-fits _ _ _ (c .before .before .before .h .given .1) (c .before .before .before .before .before .pre .1), c .before .before .before .before .before .pre .2)
+live-after-failure-requires c κs = (start c .pre .0, sums-fit c, start c .pre .2)
 
 enum-known-h-2 : tie.Need-enum-known-h-2
 enum-known-h-2 c = search needs

@@ -30,13 +30,13 @@ same-length c = search needs
 
 returns : tie.Need-returns
 returns c =
-    let a =
-    put-more (c .before .before .before .before .before .before .before .before .before .before .before .before .before .before .before .before .before .before .before .before .before .before .put .ensures)
-    (c .before .before .before .before .before .before .before .before .before .before .before .before .before .before .before .before .before .before .put-number .ensures) in
-    let b = put-more a (c .before .before .before .before .before .before .before .before .before .before .before .before .before .before .put-number2 .ensures) in
-    let d = put-more b (c .before .before .before .before .before .before .before .before .before .before .put-number3 .ensures) in
-    let e = put-more d (c .before .before .before .before .before .before .put-number4 .ensures) in
-    put-more e (c .before .before .put-byte .ensures)
+    let four = c .before .before .before .before .before .before in
+    let three = four .before .before .before .before in
+    let two = three .before .before .before .before in
+    let one = two .before .before .before .before in
+    let a = put-more (one .before .before .before .before .put .ensures) (one .put-number .ensures) in
+    let b = put-more (put-more a (two .put-number2 .ensures)) (three .put-number3 .ensures) in
+    put-more (put-more b (four .put-number4 .ensures)) (c .before .before .put-byte .ensures)
 
 pub picked-spec : {M : Type 1} → statement M
 picked-spec =

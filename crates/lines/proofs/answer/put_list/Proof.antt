@@ -58,8 +58,10 @@ same-length c = search needs
 
 returns : tie.Need-returns Inv-loop μ-loop
 returns c =
-    put-more (c .before .before .before .before .put-number .ensures)
-    (put-as (ap numbers (take-most _ (c .before .before .before .before .before .before .before .before .before .args .list .now) (c .before .loop .i) (c .before .before .before .before .before .before .at-most .ensures) (omega arith))) (c .before .loop .inv .3))
+    let counted = c .before .before .before .before in
+    let list = counted .before .before .before .before .before .args .list .now in
+    let all = take-most _ list (c .before .loop .i) (counted .before .before .at-most .ensures) (omega arith) in
+    put-more (counted .put-number .ensures) (put-as (ap numbers all) (c .before .loop .inv .3))
 
 pub put-list-spec : {M : Type 1} → statement M
 put-list-spec =

@@ -13,6 +13,10 @@ Inv-loop rounds scene entries s₀ list₀ good₀ left₀ s list good left = (l
 abbrev μ-loop : tie.MeasureT-loop
 μ-loop rounds scene entries s₀ list₀ good₀ left₀ s list good left = left
 
+-- the head of a turn, seen from its end
+abbrev turn : tie.After-after Inv-loop μ-loop → tie.In-loop Inv-loop μ-loop
+turn c = c .before .before .before .before .before .before .before .before .before .before .before .before .before .before .before .before .before .before .before .before
+
 all-out-requires : tie.Need-all-out-requires Inv-loop μ-loop
 all-out-requires c κs = search needs
 
@@ -110,16 +114,16 @@ count-report-requires-4 : tie.Need-count-report-requires-4 Inv-loop μ-loop
 count-report-requires-4 c κs = search needs
 
 loop-less : tie.Need-loop-less Inv-loop μ-loop
-loop-less c = omega (arith, c .before .before .before .before .before .before .before .before .before .before .before .before .before .before .before .before .before .before .before .before .before .loop-test .taken)
+loop-less c = omega (arith, turn (c .before) .loop-test .taken)
 
 loop-again : tie.Need-loop-again Inv-loop μ-loop
-loop-again c = (search needs, omega (arith, c .before .before .before .before .before .before .before .before .before .before .before .before .before .before .before .before .before .before .before .before .before .loop-test .taken, c .before .before .before .before .before .before .before .before .before .before .before .before .before .before .before .before .before .before .before .before .before .before .loop .inv .1))
+loop-again c = (search needs, omega (arith, turn (c .before) .loop-test .taken, turn (c .before) .before .loop .inv .1))
 
 loop-less-2 : tie.Need-loop-less-2 Inv-loop μ-loop
-loop-less-2 c = omega (arith, c .before .before .before .before .before .before .before .before .before .before .before .before .before .before .before .before .before .before .before .before .before .loop-test .taken)
+loop-less-2 c = omega (arith, turn (c .before) .loop-test .taken)
 
 loop-again-2 : tie.Need-loop-again-2 Inv-loop μ-loop
-loop-again-2 c = (search needs, omega (arith, c .before .before .before .before .before .before .before .before .before .before .before .before .before .before .before .before .before .before .before .before .before .loop-test .taken, c .before .before .before .before .before .before .before .before .before .before .before .before .before .before .before .before .before .before .before .before .before .before .loop .inv .1))
+loop-again-2 c = (search needs, omega (arith, turn (c .before) .loop-test .taken, turn (c .before) .before .loop .inv .1))
 
 returns : tie.Need-returns Inv-loop μ-loop
 returns c = search needs
