@@ -7,10 +7,10 @@ use native.Mathlib.Omega.{arith}
 use lib.ListN.{length, getD}
 use lib.Dec.{eqb, ltb}
 use borrow.Author.Tests.{ltb-true, lt-ltb, le-ltb, le-leb, lt-leb, eqb-true, eq-eqb, not-false}
-use Rattle.laws.specs.Choice.{if_then_else_}
+use Rattle.laws.specs.Bools.{if_then_else_}
 use Rattle.laws.specs.Range.{allTo, countTo, firstTo, tableTo}
 use Rattle.laws.specs.Sequence.{everyIn}
-use Rattle.laws.proofs.Choice.{case-bool, and-both, and-left, bool-same, not-is-false}
+use Rattle.laws.proofs.Bools.{case-bool, and-both, and-left, bool-same, not-is-false}
 use Rattle.laws.proofs.All.{all-at, all-from}
 use Rattle.laws.proofs.First.{first-none, first-before, chosen-same}
 use Rattle.laws.proofs.Keep.{keep-same}

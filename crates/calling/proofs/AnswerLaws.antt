@@ -6,8 +6,8 @@ use mathlib.Core.List.{List, [], _∷_}
 use lib.ListN.{length, take, drop}
 use lib.Dec.{eqb}
 use borrow.Author.Tests.{ne-eqb}
-use Rattle.laws.specs.Choice.{if_then_else_}
-use Rattle.laws.proofs.Choice.{case-bool}
+use Rattle.laws.specs.Bools.{if_then_else_}
+use Rattle.laws.proofs.Bools.{case-bool}
 use Rattle.rules.specs.State.{at}
 use Rattle.lines.specs.Words.{wordsOf, allNumbers, numbersOf, FirstFrom, isByte, notBlank, Read}
 use Rattle.lines.proofs.WordLaws.{blank-behind, words-first}

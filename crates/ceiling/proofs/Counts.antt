@@ -6,9 +6,9 @@ use native.Mathlib.Nat.{le-refl, le-of-eq, le-trans}
 use native.Mathlib.Omega.{arith}
 use lib.Dec.{eqb, ltb}
 use borrow.Author.Tests.{eqb-true, ltb-true, eq-eqb}
-use Rattle.laws.specs.Choice.{if_then_else_, one}
+use Rattle.laws.specs.Bools.{if_then_else_, one}
 use Rattle.laws.specs.Range.{sumTo}
-use Rattle.laws.proofs.Choice.{if-true, if-same, one-within}
+use Rattle.laws.proofs.Bools.{if-true, if-same, one-within}
 use Rattle.laws.proofs.Update.{at-or-off, upd-same, upd-other, upd-below, upd-all, upd-suc}
 use Rattle.laws.proofs.Sum.{sum-eq, sum-suc, sum-if-zero, sum-if-suc, sum-grow}
 use Rattle.ceiling.specs.Columns.{Columns, ofTransport, above, beyond}

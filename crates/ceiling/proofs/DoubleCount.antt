@@ -7,9 +7,9 @@ use native.Mathlib.Decide.{decLt}
 use native.Mathlib.Omega.{arith}
 use lib.Dec.{eqb, ltb, leb}
 use borrow.Author.Tests.{eqb-true, ltb-true, leb-true, eq-eqb, lt-ltb, le-leb}
-use Rattle.laws.specs.Choice.{if_then_else_}
+use Rattle.laws.specs.Bools.{if_then_else_}
 use Rattle.laws.specs.Range.{sumTo}
-use Rattle.laws.proofs.Choice.{if-true, if-cases}
+use Rattle.laws.proofs.Bools.{if-true, if-cases}
 use Rattle.laws.proofs.Sum.{sum-le, sum-eq, sum-le-add, sum-mul, sum-swap, sum-term, sum-if-zero, sum-if-all, sum-below}
 use Rattle.ceiling.specs.Columns.{Columns, sold, ofTransport, above, beyond}
 use Rattle.ceiling.proofs.Forest.{Forest}

@@ -7,10 +7,10 @@ use native.Mathlib.Nat.{suc-inj, le-refl, le-trans}
 use native.Mathlib.Omega.{arith}
 use lib.Dec.{eqb}
 use borrow.Author.Tests.{eqb-true, eq-eqb, ne-eqb}
-use Rattle.laws.specs.Choice.{if_then_else_}
+use Rattle.laws.specs.Bools.{if_then_else_}
 use Rattle.laws.specs.Range.{sumTo}
 use Rattle.laws.specs.Update.{upd}
-use Rattle.laws.proofs.Choice.{if-true, if-false}
+use Rattle.laws.proofs.Bools.{if-true, if-false}
 use Rattle.laws.proofs.Update.{at-or-off, upd-same, upd-other, upd-below}
 use Rattle.laws.proofs.Sum.{sum-if-zero, sum-change, sum-grow}
 use Rattle.ceiling.specs.Columns.{Columns, sold, namers}

@@ -7,10 +7,10 @@ use native.Mathlib.Nat.{le-refl, le-trans, suc-inj, mul-le-mul-left}
 use native.Mathlib.Omega.{arith}
 use lib.Dec.{eqb}
 use borrow.Author.Tests.{eqb-true, eq-eqb, ne-eqb}
-use Rattle.laws.specs.Choice.{if_then_else_}
+use Rattle.laws.specs.Bools.{if_then_else_}
 use Rattle.laws.specs.Chain.{alongChain}
 use Rattle.laws.specs.Update.{upd}
-use Rattle.laws.proofs.Choice.{if-true, if-false}
+use Rattle.laws.proofs.Bools.{if-true, if-false}
 use Rattle.laws.proofs.Update.{at-or-off, upd-same, upd-other, upd-below, upd-all}
 use Rattle.laws.proofs.Sum.{sum-le, sum-add, sum-mul, sum-if-le, sum-if-zero, sum-change, sum-grow}
 use Rattle.ceiling.specs.Columns.{Columns, bought}

@@ -3,7 +3,7 @@ use Prim.Native.Nat.{ℕ, suc, _+_, _*_, _-_, _≤_, _<_, min}
 use mathlib.Core.Path.{_≡_}
 use mathlib.Core.Logic.{_≢_}
 use mathlib.Core.Bool.{Bool, true, false}
-use Rattle.laws.specs.Choice.{one}
+use Rattle.laws.specs.Bools.{one}
 use Rattle.laws.specs.Chain.{alongChain}
 use Rattle.laws.specs.Update.{upd}
 use Rattle.ceiling.specs.Columns.{Columns, sold, ofTransport}

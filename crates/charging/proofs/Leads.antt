@@ -10,7 +10,7 @@ use lib.Dec.{ltb}
 use borrow.Author.Tests.{ltb-true, lt-ltb}
 use Rattle.laws.specs.Chain.{alongChain}
 use Rattle.laws.proofs.Chain.{along-zero}
-use Rattle.laws.proofs.Choice.{and-left, and-right, and-both}
+use Rattle.laws.proofs.Bools.{and-left, and-right, and-both}
 use Rattle.laws.proofs.Walk.{along-step}
 use Rattle.rules.specs.declared.State.{State}
 use Rattle.rules.specs.Sizes.{sumLimit, maxJobs}

@@ -5,7 +5,7 @@ use mathlib.Core.Path.{_≡_, sym, _∙_, ap, subst}
 use native.Mathlib.Omega.{arith}
 use lib.Seq.{getD-take, length-take-le}
 use Rattle.laws.specs.Sequence.{holds}
-use Rattle.laws.proofs.Choice.{if-true, if-false}
+use Rattle.laws.proofs.Bools.{if-true, if-false}
 use Rattle.laws.proofs.Sequence.{holds-getD}
 use Rattle.laws.proofs.Once.{once-facts}
 use Rattle.rules.specs.declared.State.{State}

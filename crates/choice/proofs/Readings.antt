@@ -11,11 +11,11 @@ use lib.ListN.{getD}
 use borrow.Author.Tests.{ltb-true, lt-ltb, eqb-true, eq-eqb}
 use Rattle.laws.specs.Range.{anyTo, countTo, firstTo}
 use Rattle.laws.specs.Sequence.{holds, firstOf, upTo}
-use Rattle.laws.proofs.Choice.{case-bool, bool-same, true-not-false, and-both, and-left, and-right}
+use Rattle.laws.proofs.Bools.{case-bool, bool-same, true-not-false, and-both, and-left, and-right}
 use Rattle.laws.proofs.Count.{count-none}
 use Rattle.laws.proofs.All.{any-of, any-witness}
 use Rattle.laws.proofs.First.{first-same}
-use Rattle.laws.proofs.Found.{first-of-cases, first-of-same, up-to-in}
+use Rattle.laws.proofs.FirstOf.{first-of-cases, first-of-same, up-to-in}
 use Rattle.laws.proofs.Sequence.{count-in-same}
 use Rattle.rules.specs.declared.State.{State}
 use Rattle.rules.specs.State.{at, transportOf, queueOf, isWaiting, jobOf, destinationOf, isPresent, waitsOf, waitingOf, orderAt}

@@ -2,7 +2,7 @@
 -- with how many waiting, and the job, place and entry that the pick is from. All zeros where nothing is found.
 use Prim.Native.Nat.{ℕ, zero, suc}
 use mathlib.Core.Bool.{true, false}
-use Rattle.laws.specs.Choice.{if_then_else_}
+use Rattle.laws.specs.Bools.{if_then_else_}
 use Rattle.rules.specs.declared.State.{State}
 use Rattle.rules.specs.Picking.{finds, nextTransport, currentJob, passedOver, nextPlace, nextEntry}
 use Rattle.rules.specs.Preemption.{preemptorOf}

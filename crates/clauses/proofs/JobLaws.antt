@@ -8,7 +8,7 @@ use native.Mathlib.Omega.{arith}
 use lib.Dec.{eqb, leb}
 use lib.ListN.{length, getD, List·getD-eq-default}
 use borrow.Author.Tests.{eqb-true, eqb-false, eq-eqb, le-leb, lt-leb, leb-true}
-use Rattle.laws.proofs.Choice.{case-bool, bool-same, and-both, and-left-false}
+use Rattle.laws.proofs.Bools.{case-bool, bool-same, and-both, and-left-false}
 use Rattle.laws.specs.Chain.{endsIn}
 use Rattle.rules.specs.declared.Settings.{Settings}
 use Rattle.rules.specs.declared.Jobs.{Jobs}

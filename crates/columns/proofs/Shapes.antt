@@ -12,7 +12,7 @@ use denote.Struct.Declared.{row}
 use denote.Struct.Laws.{val}
 use denote.Shadow.{shadow}
 use mir.Val.{Val}
-use Rattle.laws.proofs.Columns.{getD-default}
+use Rattle.laws.proofs.Places.{getD-default}
 use Rattle.rules.specs.declared.State.{State}
 use Rattle.rules.specs.State.{zeroList}
 use Rattle.rules.specs.Setup.{noJobs}

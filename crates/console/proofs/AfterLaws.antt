@@ -4,7 +4,7 @@ use mathlib.Core.Path.{_≡_, refl}
 use mathlib.Core.List.{List}
 use lib.ListN.{replicate}
 use borrow.Author.Tests.{eq-eqb, ne-eqb}
-use Rattle.laws.specs.Choice.{if_then_else_}
+use Rattle.laws.specs.Bools.{if_then_else_}
 use Rattle.rules.specs.declared.State.{State}
 use Rattle.calling.specs.Meaning.{meaningOf, stateOn}
 use Rattle.console.specs.Lines.{afterLine}

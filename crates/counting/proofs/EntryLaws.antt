@@ -13,8 +13,8 @@ use lib.ListN.{length, getD, set, length-set, replicate, getD-replicate, List·g
 use lib.Seq.{getD-set-same, getD-set-other}
 use borrow.Author.Tests.{eq-eqb, ne-eqb, lt-ltb, le-ltb, lt-leb, leb-true}
 use Rattle.laws.specs.Range.{allTo, countTo, sumTo}
-use Rattle.laws.proofs.Choice.{true-not-false, false-of, and-both, and-left-false, and-right-false, and-left, and-right, or-left, or-neither, one-true, one-false}
-use Rattle.laws.proofs.Both.{and-4}
+use Rattle.laws.proofs.Bools.{true-not-false, false-of, and-both, and-left-false, and-right-false, and-left, and-right, or-left, or-neither, one-true, one-false}
+use Rattle.laws.proofs.Joined.{and-4}
 use Rattle.laws.proofs.All.{all-false-of, all-more}
 use Rattle.laws.proofs.Count.{count-step, count-le-bound}
 use Rattle.rules.specs.State.{at}

@@ -8,12 +8,12 @@ use lib.Dec.{eqb}
 use lib.ListN.{length, set, length-set}
 use lib.Seq.{getD-set-other}
 use borrow.Author.Tests.{eq-eqb, ne-eqb, eqb-true}
-use Rattle.laws.specs.Choice.{one}
+use Rattle.laws.specs.Bools.{one}
 use Rattle.laws.specs.Range.{countTo, sumTo}
-use Rattle.laws.proofs.Choice.{case-bool, bool-same, and-both, and-left, and-right, and-left-false, and-right-false, one-false}
+use Rattle.laws.proofs.Bools.{case-bool, bool-same, and-both, and-left, and-right, and-left-false, and-right-false, one-false}
 use Rattle.laws.proofs.Sum.{sum-eq, sum-zero, sum-add, sum-change}
 use Rattle.laws.proofs.Count.{count-le-bound}
-use Rattle.laws.proofs.Columns.{set-more}
+use Rattle.laws.proofs.Places.{set-more}
 use Rattle.rules.specs.State.{at}
 use Rattle.counting.specs.Counting.{countsTo, Counts}
 

@@ -7,8 +7,8 @@ use native.Mathlib.Omega.{arith}
 use native.Mathlib.Decide.{decLt}
 use lib.ListN.{getD}
 use Rattle.laws.specs.Range.{countTo}
-use Rattle.laws.specs.Choice.{if_then_else_}
-use Rattle.laws.proofs.Choice.{case-bool}
+use Rattle.laws.specs.Bools.{if_then_else_}
+use Rattle.laws.proofs.Bools.{case-bool}
 use Rattle.rules.specs.declared.Jobs.{Jobs}
 use Rattle.rules.specs.State.{at}
 use Rattle.eligibility.specs.Eligibility.{waitsIn, leftIn, Adds}

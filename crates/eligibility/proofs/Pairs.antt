@@ -9,7 +9,7 @@ use lib.Dec.{eqb, ltb}
 use lib.ListN.{getD, List·getD-eq-default}
 use borrow.Author.Tests.{lt-ltb, le-ltb, eqb-true}
 use Rattle.laws.specs.Range.{anyTo, countTo, firstTo}
-use Rattle.laws.proofs.Choice.{case-bool, bool-same, true-not-false, false-of, and-both, and-left, and-right, and-left-false, and-right-false, eqb-self}
+use Rattle.laws.proofs.Bools.{case-bool, bool-same, true-not-false, false-of, and-both, and-left, and-right, and-left-false, and-right-false, eqb-self}
 use Rattle.laws.proofs.Count.{count-any}
 use Rattle.laws.proofs.All.{any-of, any-none, any-witness, any-same}
 use Rattle.laws.proofs.First.{first-same}

@@ -5,7 +5,7 @@ use mathlib.Core.Bool.{Bool, true, false, _&&_}
 use mathlib.Core.List.{List}
 use lib.ListN.{getD}
 use lib.Dec.{eqb, ltb}
-use Rattle.laws.specs.Choice.{if_then_else_}
+use Rattle.laws.specs.Bools.{if_then_else_}
 use Rattle.laws.specs.Range.{anyTo, countTo, tableTo}
 use Rattle.rules.specs.declared.Busy.{Busy}
 use Rattle.rules.specs.declared.Destination.{Destination}

@@ -10,7 +10,7 @@ ghost use mathlib.Core.Bool.{true, false, _&&_};
 ghost use Prim.Native.Nat.{ℕ, _+_, _-_, _<_, _≤_};
 ghost use lib.ListN.{getD};
 ghost use lib.Dec.{ltb};
-ghost use Rattle.laws.specs.Choice.{if_then_else_};
+ghost use Rattle.laws.specs.Bools.{if_then_else_};
 ghost use Rattle.laws.specs.Range.{anyTo, firstTo};
 ghost use Rattle.rules.specs.State.{at, isLive, windowOf};
 ghost use Rattle.rules.specs.SoundFacts.{InRange};

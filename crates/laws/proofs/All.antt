@@ -7,7 +7,7 @@ use native.Mathlib.Nat.{le-step, lt-suc-self, not-suc-le-zero, le-of-suc-le-suc,
 use native.Mathlib.Numerals.{add-one}
 use borrow.Author.Tests.{not-true}
 use Rattle.laws.specs.Range.{allTo, anyTo}
-use Rattle.laws.proofs.Choice.{true-not-false, false-of, not-is-true, and-both, and-left, and-right, or-left, or-right, or-cases, or-neither, not-and}
+use Rattle.laws.proofs.Bools.{true-not-false, false-of, not-is-true, and-both, and-left, and-right, or-left, or-right, or-cases, or-neither, not-and}
 
 -- what holds below n and at n holds below suc n
 pub below-suc {ℓ} : (P : ℕ → Type ℓ) (n : ℕ) → ((i : ℕ) → i < n → P i) → P n → (i : ℕ) → i < suc n → P i

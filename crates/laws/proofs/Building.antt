@@ -8,7 +8,7 @@ use native.Mathlib.Omega.{arith}
 use lib.ListN.{length, getD, take, set}
 use lib.Seq.{take-suc, length-take-le}
 use Rattle.laws.specs.Sequence.{keep, padded}
-use Rattle.laws.proofs.Choice.{if-true, if-false}
+use Rattle.laws.proofs.Bools.{if-true, if-false}
 use Rattle.laws.proofs.Front.{length-snoc}
 use Rattle.laws.proofs.Sequence.{set-padded-end}
 use Rattle.laws.proofs.Keep.{length-keep-le}

@@ -8,7 +8,7 @@ use lib.Dec.{ltb}
 use borrow.Author.Tests.{ltb-true, lt-ltb, le-ltb}
 use Rattle.laws.specs.Range.{countTo}
 use Rattle.laws.specs.Chain.{alongChain, endsIn, firstAlong}
-use Rattle.laws.proofs.Choice.{true-not-false, case-bool, if-true, if-false}
+use Rattle.laws.proofs.Bools.{true-not-false, case-bool, if-true, if-false}
 use Rattle.laws.proofs.Count.{count-lt-of, count-lt-bound}
 
 -- a link leads nowhere or to an element

@@ -3,9 +3,9 @@ use Prim.Native.Nat.{ℕ, suc, _<_}
 use mathlib.Core.Bool.{Bool, true}
 use mathlib.Core.Path.{_≡_, sym, _∙_}
 use native.Mathlib.Omega.{arith}
-use Rattle.laws.specs.Choice.{if_then_else_}
+use Rattle.laws.specs.Bools.{if_then_else_}
 use Rattle.laws.specs.Chain.{endsIn}
-use Rattle.laws.proofs.Choice.{case-bool, if-true, if-false}
+use Rattle.laws.proofs.Bools.{case-bool, if-true, if-false}
 use Rattle.laws.proofs.Chain.{ends-zero, ends-same}
 use Rattle.laws.proofs.ChainChange.{ends-within}
 

@@ -9,7 +9,7 @@ use native.Mathlib.Decide.{ℕ-discrete}
 use lib.Dec.{eqb}
 use borrow.Author.Tests.{eqb-false}
 use Rattle.laws.specs.Chain.{alongChain, endsIn, firstAlong}
-use Rattle.laws.proofs.Choice.{true-not-false, case-bool}
+use Rattle.laws.proofs.Bools.{true-not-false, case-bool}
 use Rattle.laws.proofs.Chain.{ends-zero, ends-more, ends-below, along-enough, first-along-here, first-along-next}
 
 module _ (next : ℕ → ℕ) where

@@ -4,7 +4,7 @@ use mathlib.Core.Bool.{Bool, true}
 use mathlib.Core.Path.{_≡_, refl, sym, _∙_}
 use native.Mathlib.Nat.{le-step, le-refl}
 use Rattle.laws.specs.Chain.{endsIn, firstAlong}
-use Rattle.laws.proofs.Choice.{true-not-false, case-bool}
+use Rattle.laws.proofs.Bools.{true-not-false, case-bool}
 use Rattle.laws.proofs.Chain.{ends-zero, ends-suc, ends-more, first-along-zero, first-along-here, first-along-next}
 
 -- each element that passes is led on to the next that does, if there is one within top

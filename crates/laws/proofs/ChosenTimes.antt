@@ -7,7 +7,7 @@ use native.Mathlib.Omega.{arith}
 use lib.Dec.{eqb}
 use Rattle.laws.specs.Range.{countTo, chosenTo}
 use Rattle.laws.specs.Sequence.{timesIn}
-use Rattle.laws.proofs.Choice.{case-bool, one-false, and-left-false, eqb-sym}
+use Rattle.laws.proofs.Bools.{case-bool, one-false, and-left-false, eqb-sym}
 use Rattle.laws.proofs.First.{chosen-true, chosen-false}
 use Rattle.laws.proofs.Sequence.{times-append, times-single}
 

@@ -9,9 +9,9 @@ use native.Mathlib.Decide.{le-ind, decLt}
 use native.Mathlib.Omega.{arith}
 use lib.Dec.{ltb}
 use borrow.Author.Tests.{ltb-true, lt-ltb}
-use Rattle.laws.specs.Choice.{one}
+use Rattle.laws.specs.Bools.{one}
 use Rattle.laws.specs.Range.{anyTo, countTo}
-use Rattle.laws.proofs.Choice.{false-of, case-bool, bool-same, not-is-true, and-both, one-true, one-false, one-le, one-le-one, one-not, one-split}
+use Rattle.laws.proofs.Bools.{false-of, case-bool, bool-same, not-is-true, and-both, one-true, one-false, one-le, one-le-one, one-not, one-split}
 use Rattle.laws.proofs.All.{any-of, any-witness}
 
 module _ (p : ℕ → Bool) where

@@ -9,7 +9,7 @@ use lib.ListN.{length, getD}
 use borrow.Author.Tests.{leb-true, le-leb}
 use Rattle.laws.specs.Sequence.{keep, holds, everyIn, neverFalling}
 use Rattle.laws.specs.Order.{Before}
-use Rattle.laws.proofs.Choice.{true-not-false, and-both, and-left, and-right}
+use Rattle.laws.proofs.Bools.{true-not-false, and-both, and-left, and-right}
 use Rattle.laws.proofs.Sequence.{holds-cases, every-at, every-from}
 use Rattle.laws.proofs.Order.{before-left, before-right, before-append-cases, before-kept, before-getD}
 

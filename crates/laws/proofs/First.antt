@@ -12,9 +12,9 @@ use lib.Dec.{ltb}
 use lib.ListN.{length, getD, set, drop, length-append, List·getD-append}
 use lib.Seq.{getD-at}
 use borrow.Author.Tests.{ltb-true, ltb-false, lt-ltb}
-use Rattle.laws.specs.Choice.{if_then_else_, one}
+use Rattle.laws.specs.Bools.{if_then_else_, one}
 use Rattle.laws.specs.Range.{anyTo, countTo, firstTo, chosenTo}
-use Rattle.laws.proofs.Choice.{true-not-false, case-bool, bool-same, if-cases, one-true}
+use Rattle.laws.proofs.Bools.{true-not-false, case-bool, bool-same, if-cases, one-true}
 use Rattle.laws.proofs.All.{below-suc, any-of, any-witness}
 use Rattle.laws.proofs.Count.{count-suc, count-more, count-miss, count-le-bound, count-injective}
 use Rattle.laws.proofs.Front.{front-more}

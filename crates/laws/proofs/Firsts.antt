@@ -8,10 +8,10 @@ use native.Mathlib.Decide.{ℕ-discrete}
 use lib.Dec.{eqb}
 use lib.ListN.{length, getD}
 use borrow.Author.Tests.{eqb-true, ne-eqb}
-use Rattle.laws.specs.Choice.{if_then_else_}
+use Rattle.laws.specs.Bools.{if_then_else_}
 use Rattle.laws.specs.Range.{anyTo}
 use Rattle.laws.specs.Sequence.{holds, timesIn, firstsTo}
-use Rattle.laws.proofs.Choice.{case-bool, if-true, if-false, or-right, one-le, one-false}
+use Rattle.laws.proofs.Bools.{case-bool, if-true, if-false, or-right, one-le, one-false}
 use Rattle.laws.proofs.All.{any-witness}
 use Rattle.laws.proofs.Sequence.{holds-append, times-append, times-single, times-zero}
 use Rattle.laws.proofs.Once.{distinct-length}

@@ -8,13 +8,13 @@ use native.Mathlib.Omega.{arith}
 use lib.Dec.{eqb}
 use lib.ListN.{length, getD, take, drop}
 use lib.Seq.{take-suc, split-at, getD-take, length-take-le}
-use Rattle.laws.specs.Choice.{if_then_else_, one}
+use Rattle.laws.specs.Bools.{if_then_else_, one}
 use Rattle.laws.specs.Range.{anyTo, countTo, tableTo}
 use Rattle.laws.specs.Sequence.{keep, holds, timesIn, countIn, firstOf}
-use Rattle.laws.proofs.Choice.{case-bool, not-is-true, if-true}
+use Rattle.laws.proofs.Bools.{case-bool, not-is-true, if-true}
 use Rattle.laws.proofs.Sequence.{holds-append, times-append, times-single, times-count, every-from-getD, count-in-append}
 use Rattle.laws.proofs.Keep.{keep-append}
-use Rattle.laws.proofs.Found.{first-of-append, first-of-none}
+use Rattle.laws.proofs.FirstOf.{first-of-append, first-of-none}
 
 module _ (p : ℕ → Bool) (l : List ℕ) (d : ℕ) where
   pub count-in-take : (n : ℕ) → n ≤ length l → countIn p (take n l) ≡ countTo (λ i. p (getD l i d)) n

@@ -8,9 +8,9 @@ use native.Mathlib.Omega.{arith}
 use lib.Dec.{eqb, ltb}
 use lib.ListN.{length}
 use borrow.Author.Tests.{ne-eqb}
-use Rattle.laws.specs.Choice.{if_then_else_, one}
+use Rattle.laws.specs.Bools.{if_then_else_, one}
 use Rattle.laws.specs.Sequence.{keep, holds, timesIn, everyIn, countIn}
-use Rattle.laws.proofs.Choice.{true-not-false, case-bool, not-is-true, not-is-false, and-both, and-left, and-right, one-false, eqb-self, eqb-sym}
+use Rattle.laws.proofs.Bools.{true-not-false, case-bool, not-is-true, not-is-false, and-both, and-left, and-right, one-false, eqb-self, eqb-sym}
 use Rattle.laws.proofs.Sequence.{holds-head, holds-tail, holds-times, lacks-of-times, every-at, every-from, count-in-le}
 
 module _ (p : ℕ → Bool) where

@@ -1,32 +1,43 @@
+-- Tests: what is chosen by one, several joined, and over the numbers below a bound.
+
+pub mod Bools
+pub mod Joined
 pub mod All
-pub mod Chain
-pub mod ChainChange
-pub mod Choice
 pub mod Count
-pub mod Falling
-pub mod Fill
+pub mod Sum
 pub mod First
 pub mod Firsts
-pub mod Found
-pub mod Front
-pub mod Index
+pub mod Table
+pub mod Fractions
+
+-- Lists: what they hold, in which order, once each; with an element put, moved or taken out.
+
+pub mod Sequence
+pub mod FirstOf
 pub mod Keep
 pub mod Move
+pub mod Order
 pub mod MoveOrder
 pub mod Once
-pub mod Order
-pub mod Sequence
-pub mod Table
-pub mod Both
-pub mod Building
-pub mod Sum
-pub mod Update
-pub mod Walk
-pub mod Writing
-pub mod Onto
-pub mod Tests
-pub mod ChainAmong
-pub mod Columns
-pub mod ChosenTimes
-pub mod ChainSkip
+pub mod Falling
 pub mod Newest
+pub mod ChosenTimes
+
+-- Chains of links.
+
+pub mod Chain
+pub mod ChainChange
+pub mod ChainAmong
+pub mod ChainSkip
+pub mod Onto
+pub mod Walk
+
+-- Columns: read by places, written at a place, filled from the front.
+
+pub mod Places
+pub mod Update
+pub mod Index
+pub mod Fill
+pub mod Front
+pub mod Building
+pub mod Writing

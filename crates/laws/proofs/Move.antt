@@ -9,12 +9,12 @@ use native.Mathlib.Decide.{ℕ-discrete}
 use lib.Dec.{eqb}
 use lib.ListN.{length, drop, length-append}
 use borrow.Author.Tests.{eqb-false, eq-eqb, ne-eqb}
-use Rattle.laws.specs.Choice.{if_then_else_, one}
+use Rattle.laws.specs.Bools.{if_then_else_, one}
 use Rattle.laws.specs.Sequence.{keep, holds, timesIn, everyIn, upTo, insertBefore, moveBefore}
-use Rattle.laws.proofs.Choice.{true-not-false, case-bool, bool-same, or-left, or-right, or-cases, one-true, one-false, eqb-self, if-true, if-false}
+use Rattle.laws.proofs.Bools.{true-not-false, case-bool, bool-same, or-left, or-right, or-cases, one-true, one-false, eqb-self, if-true, if-false}
 use Rattle.laws.proofs.Sequence.{holds-rest, holds-of-times, holds-same-times, times-append, times-cons, times-positive, lacks-head, lacks-tail, every-same-times}
 use Rattle.laws.proofs.Keep.{remove-times-self, remove-times-other, remove-holds, length-remove}
-use Rattle.laws.proofs.Found.{up-to-rest}
+use Rattle.laws.proofs.FirstOf.{up-to-rest}
 
 module _ (x y : ℕ) where
   pub insert-here : {z : ℕ} (l : List ℕ) → z ≡ y → insertBefore x y (z ∷ l) ≡ x ∷ z ∷ l

@@ -9,7 +9,7 @@ use lib.Dec.{eqb}
 use borrow.Author.Tests.{ne-eqb}
 use Rattle.laws.specs.Sequence.{keep, holds, insertBefore, moveBefore}
 use Rattle.laws.specs.Order.{Before}
-use Rattle.laws.proofs.Choice.{true-not-false, true-of, case-bool, not-is-true}
+use Rattle.laws.proofs.Bools.{true-not-false, true-of, case-bool, not-is-true}
 use Rattle.laws.proofs.Sequence.{holds-tail, holds-cases, holds-rest, lacks-head, lacks-tail}
 use Rattle.laws.proofs.Keep.{remove-holds, remove-lacks}
 use Rattle.laws.proofs.Move.{insert-here, insert-later, insert-none, holds-insert}

@@ -13,7 +13,7 @@ use lib.Dec.{eqb}
 use borrow.Author.Tests.{eqb-true, eq-eqb, ne-eqb}
 use Rattle.laws.specs.Range.{lastTo}
 use Rattle.laws.specs.Newest.{newest}
-use Rattle.laws.proofs.Choice.{case-bool, if-true, if-false}
+use Rattle.laws.proofs.Bools.{case-bool, if-true, if-false}
 
 pub last-same : (p q : ℕ → Bool) (n : ℕ) → ((i : ℕ) → i < n → p i ≡ q i) → lastTo p n ≡ lastTo q n
 unfolding lastTo

@@ -10,10 +10,10 @@ use native.Mathlib.Decide.{ℕ-discrete}
 use lib.Dec.{eqb, ltb}
 use lib.ListN.{length}
 use borrow.Author.Tests.{eqb-true, eq-eqb, ne-eqb, ltb-true, lt-ltb}
-use Rattle.laws.specs.Choice.{one}
+use Rattle.laws.specs.Bools.{one}
 use Rattle.laws.specs.Range.{allTo, countTo}
 use Rattle.laws.specs.Sequence.{keep, holds, timesIn, everyIn, moveBefore, holdsEachOnce}
-use Rattle.laws.proofs.Choice.{true-not-false, false-of, case-bool, bool-same, and-both, and-left, and-right, one-true, one-false, one-le, one-positive, eqb-self}
+use Rattle.laws.proofs.Bools.{true-not-false, false-of, case-bool, bool-same, and-both, and-left, and-right, one-true, one-false, one-le, one-positive, eqb-self}
 use Rattle.laws.proofs.All.{all-at, all-from}
 use Rattle.laws.proofs.Sequence.{holds-of-times, times-append, times-single, times-positive, times-zero, times-none, every-at, every-from}
 use Rattle.laws.proofs.Keep.{keep-in, keep-passes, times-keep-true, times-keep-le, remove-lacks, remove-times-other, length-remove}

@@ -7,10 +7,10 @@ use native.Mathlib.Nat.{not-suc-le-zero, le-of-suc-le-suc, le-step, le-refl, lt-
 use native.Mathlib.Decide.{ℕ-discrete}
 use lib.Dec.{eqb}
 use borrow.Author.Tests.{eqb-true, eq-eqb, ne-eqb}
-use Rattle.laws.specs.Choice.{if_then_else_}
+use Rattle.laws.specs.Bools.{if_then_else_}
 use Rattle.laws.specs.Chain.{alongChain, endsIn, firstAlong}
 use Rattle.laws.specs.Onto.{onChain, near}
-use Rattle.laws.proofs.Choice.{true-not-false, false-of, case-bool, or-cases, and-both, and-left-false, and-right-false}
+use Rattle.laws.proofs.Bools.{true-not-false, false-of, case-bool, or-cases, and-both, and-left-false, and-right-false}
 use Rattle.laws.proofs.Chain.{ends-more, first-along-zero, first-along-here, first-along-next, first-along-enough}
 
 module _ (next : ℕ → ℕ) (r : ℕ) where

@@ -8,10 +8,10 @@ use native.Mathlib.Nat.{not-suc-le-zero, le-of-suc-le-suc}
 use lib.Dec.{eqb}
 use lib.ListN.{length, getD}
 use borrow.Author.Tests.{eqb-true}
-use Rattle.laws.specs.Choice.{if_then_else_}
+use Rattle.laws.specs.Bools.{if_then_else_}
 use Rattle.laws.specs.Sequence.{keep, holds, timesIn, upTo}
 use Rattle.laws.specs.Order.{Before}
-use Rattle.laws.proofs.Choice.{true-not-false, case-bool}
+use Rattle.laws.proofs.Bools.{true-not-false, case-bool}
 use Rattle.laws.proofs.Sequence.{holds-head, holds-tail, holds-cases, holds-rest, holds-getD, holds-append-cases, times-head-once, times-tail-le}
 use Rattle.laws.proofs.Keep.{keep-true, keep-false, keep-in, holds-keep-in}
 

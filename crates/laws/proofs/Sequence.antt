@@ -10,11 +10,11 @@ use lib.Dec.{eqb, ltb}
 use lib.ListN.{length, getD, take, set, replicate, length-append, length-replicate}
 use lib.Seq.{take-append-seam, set-append-seam}
 use borrow.Author.Tests.{eqb-true, eqb-false, ne-eqb, ltb-true, lt-ltb}
-use Rattle.laws.specs.Choice.{one}
+use Rattle.laws.specs.Bools.{one}
 use Rattle.laws.specs.Sequence.{holds, timesIn, everyIn, countIn, padded}
-use Rattle.laws.proofs.Choice.{true-not-false, case-bool, bool-same, false-of, and-both, and-left, and-right, or-left, or-right, or-cases}
-use Rattle.laws.proofs.Choice.{or-left-false, or-right-false, one-true, one-false, one-le, eqb-self}
-use Rattle.laws.proofs.Columns.{getD-repeated}
+use Rattle.laws.proofs.Bools.{true-not-false, case-bool, bool-same, false-of, and-both, and-left, and-right, or-left, or-right, or-cases}
+use Rattle.laws.proofs.Bools.{or-left-false, or-right-false, one-true, one-false, one-le, eqb-self}
+use Rattle.laws.proofs.Places.{getD-repeated}
 
 -- x occurs
 

@@ -9,10 +9,10 @@ use native.Mathlib.Numerals.{add-one}
 use native.Mathlib.Omega.{arith}
 use lib.Dec.{ltb}
 use borrow.Author.Tests.{le-ltb}
-use Rattle.laws.specs.Choice.{if_then_else_, one}
+use Rattle.laws.specs.Bools.{if_then_else_, one}
 use Rattle.laws.specs.Range.{sumTo}
 use Rattle.laws.specs.Update.{upd}
-use Rattle.laws.proofs.Choice.{if-false, if-cases, if-le}
+use Rattle.laws.proofs.Bools.{if-false, if-cases, if-le}
 use Rattle.laws.proofs.Update.{upd-same, upd-other, upd-all}
 
 pub sum-le : (f g : ℕ → ℕ) (n : ℕ) → ((i : ℕ) → i < n → f i ≤ g i) → sumTo f n ≤ sumTo g n

@@ -10,9 +10,9 @@ use lib.Dec.{eqb}
 use lib.ListN.{length, getD, set, length-append, length-set, List·getD-append}
 use lib.Seq.{getD-at, getD-set-same, getD-set-other, ext-getD}
 use borrow.Author.Tests.{eq-eqb, ne-eqb}
-use Rattle.laws.specs.Choice.{if_then_else_}
+use Rattle.laws.specs.Bools.{if_then_else_}
 use Rattle.laws.specs.Range.{tableTo, foldTo}
-use Rattle.laws.proofs.Choice.{if-true, if-false}
+use Rattle.laws.proofs.Bools.{if-true, if-false}
 use Rattle.laws.proofs.All.{below-suc}
 
 module _ {ℓ} {A : Type ℓ} (f : ℕ → A) where

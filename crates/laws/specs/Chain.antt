@@ -1,7 +1,7 @@
 -- Chains of links. A link is a number: 0 leads nowhere, suc x leads to x, and next x is the link that x has.
 use Prim.Native.Nat.{ℕ, zero, suc}
 use mathlib.Core.Bool.{Bool, true, false}
-use Rattle.laws.specs.Choice.{if_then_else_}
+use Rattle.laws.specs.Bools.{if_then_else_}
 
 module _ {ℓ} {A : Type ℓ} where
   -- the step is taken at each element of the chain in turn, at most n of them

@@ -1,5 +1,5 @@
 pub mod Chain
-pub mod Choice
+pub mod Bools
 pub mod Newest
 pub mod Onto
 pub mod Order

@@ -3,7 +3,7 @@ use Prim.Native.Nat.{ℕ, zero, suc, _+_}
 use mathlib.Core.Bool.{Bool, true, false, _&&_, _||_}
 use mathlib.Core.List.{List, [], _∷_, _++_}
 use lib.Dec.{ltb}
-use Rattle.laws.specs.Choice.{if_then_else_, one}
+use Rattle.laws.specs.Bools.{if_then_else_, one}
 
 -- the test holds at every number below n
 unfoldable pub allTo : (ℕ → Bool) → ℕ → Bool

@@ -4,7 +4,7 @@ use mathlib.Core.Bool.{Bool, true, false, not, _&&_, _||_}
 use mathlib.Core.List.{List, [], _∷_, _++_}
 use lib.ListN.{length, getD, replicate}
 use lib.Dec.{eqb, ltb, leb}
-use Rattle.laws.specs.Choice.{if_then_else_, one}
+use Rattle.laws.specs.Bools.{if_then_else_, one}
 use Rattle.laws.specs.Range.{allTo}
 
 -- the elements that pass the test, in their order

@@ -1,7 +1,7 @@
 -- A column of numbers with one place written.
 use Prim.Native.Nat.{ℕ}
 use lib.Dec.{eqb}
-use Rattle.laws.specs.Choice.{if_then_else_}
+use Rattle.laws.specs.Bools.{if_then_else_}
 
 -- f, but v at j
 unfoldable pub upd : (ℕ → ℕ) → ℕ → ℕ → (ℕ → ℕ)

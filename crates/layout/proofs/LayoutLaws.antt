@@ -8,8 +8,8 @@ use native.Mathlib.Decide.{decLt}
 use lib.ListN.{length}
 use lib.Dec.{eqb, ltb}
 use borrow.Author.Tests.{eqb-true, ltb-false, ne-eqb, lt-ltb, le-ltb}
-use Rattle.laws.specs.Choice.{if_then_else_}
-use Rattle.laws.proofs.Choice.{case-bool, false-of, if-cases, or-left, or-right, or-neither, or-left-false, or-right-false}
+use Rattle.laws.specs.Bools.{if_then_else_}
+use Rattle.laws.proofs.Bools.{case-bool, false-of, if-cases, or-left, or-right, or-neither, or-left-false, or-right-false}
 use Rattle.layout.specs.Layout.{word, isKind, headOf, tailOf, sizeOf, listPlaces, textPlaces, rowLength, lacksRoom, endBefore}
 
 -- Heads.

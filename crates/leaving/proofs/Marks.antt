@@ -8,7 +8,7 @@ use lib.ListN.{length, getD, set, drop}
 use lib.Dec.{eqb}
 use borrow.Author.Tests.{ne-eqb}
 use Rattle.laws.specs.Range.{anyTo, tableTo}
-use Rattle.laws.proofs.Choice.{and-both, and-left-false, case-bool}
+use Rattle.laws.proofs.Bools.{and-both, and-left-false, case-bool}
 use Rattle.laws.proofs.Table.{table-is, table-write}
 use Rattle.laws.proofs.Fill.{table-keep}
 use Rattle.leaving.specs.Leaving.{usedAt, staysAt, OthersStay}

@@ -10,9 +10,9 @@ use lib.ListN.{length, getD, drop, drop-of-length-le}
 use lib.Seq.{drop-cons}
 use lib.Dec.{leb}
 use borrow.Author.Tests.{le-leb, lt-leb, lt-ltb, le-ltb}
-use Rattle.laws.specs.Choice.{if_then_else_}
+use Rattle.laws.specs.Bools.{if_then_else_}
 use Rattle.laws.specs.Sequence.{everyIn}
-use Rattle.laws.proofs.Choice.{if-false, and-left-false, and-right-false}
+use Rattle.laws.proofs.Bools.{if-false, and-left-false, and-right-false}
 use Rattle.lines.specs.declared.text.Number.{Number}
 use Rattle.lines.specs.declared.text.Number.the-variants
 use Rattle.lines.specs.Words.{isDigit, valueFrom, valueOf, isNumber, numberOf}

@@ -9,8 +9,8 @@ use native.Mathlib.Decide.{decLt}
 use borrow.Author.Tests.{not-true}
 use lib.ListN.{length, set, take, drop, length-set, drop-of-length-le}
 use lib.Seq.{take-suc-set}
-use Rattle.laws.specs.Choice.{if_then_else_}
-use Rattle.laws.proofs.Choice.{and-left-false, true-not-false}
+use Rattle.laws.specs.Bools.{if_then_else_}
+use Rattle.laws.proofs.Bools.{and-left-false, true-not-false}
 use Rattle.lines.specs.declared.text.Number.{Number}
 use Rattle.lines.specs.declared.text.Number.the-variants
 use Rattle.lines.specs.Words.{pieces, notEmpty, wordsOf, valueOf, isNumber, allNumbers, numbersOf, numberOf, FirstFrom, isByte, notBlank, Read}

@@ -9,9 +9,9 @@ use lib.ListN.{length, getD, take, drop, take-append-drop, length-drop, drop-of-
 use lib.Seq.{drop-cons, drop-drop, getD-take, getD-drop, length-take-le}
 use lib.Dec.{eqb}
 use borrow.Author.Tests.{eqb-true, eq-eqb, not-true, not-false}
-use Rattle.laws.specs.Choice.{if_then_else_}
+use Rattle.laws.specs.Bools.{if_then_else_}
 use Rattle.laws.specs.Sequence.{everyIn}
-use Rattle.laws.proofs.Choice.{and-left, and-right, not-is-true, true-not-false, false-of}
+use Rattle.laws.proofs.Bools.{and-left, and-right, not-is-true, true-not-false, false-of}
 use Rattle.laws.proofs.Sequence.{every-from-getD}
 use Rattle.lines.specs.Words.{longer, pieces, notEmpty, wordsOf, sameBytes, FirstFrom, isByte, notBlank}
 

@@ -5,7 +5,7 @@ use mathlib.Core.List.{List, [], _∷_, _++_, map}
 use lib.ListN.{length, take}
 use lib.Seq.{sets}
 use lib.Dec.{eqb}
-use Rattle.laws.specs.Choice.{if_then_else_}
+use Rattle.laws.specs.Bools.{if_then_else_}
 use Rattle.rules.specs.declared.SetupAnswer.{SetupAnswer}
 use Rattle.rules.specs.declared.SetupAnswer.the-variants
 use Rattle.rules.specs.declared.JobAnswer.{JobAnswer}

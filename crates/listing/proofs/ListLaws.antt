@@ -12,17 +12,17 @@ use lib.Dec.{eqb, leb}
 use lib.ListN.{length, getD, set, take, length-set}
 use lib.Seq.{getD-set-same, getD-set-other, take-suc, getD-take, length-take-le}
 use borrow.Author.Tests.{eqb-true, eq-eqb, ne-eqb, lt-ltb, le-leb, leb-true, not-true}
-use Rattle.laws.specs.Choice.{one}
+use Rattle.laws.specs.Bools.{one}
 use Rattle.laws.specs.Range.{anyTo, countTo}
 use Rattle.laws.specs.Sequence.{holds, everyIn, holdsEachOnce, neverFalling}
-use Rattle.laws.proofs.Choice.{true-not-false, bool-same, false-of, and-both, and-left, and-right, and-left-false, and-right-false, not-is-true, one-true, one-false, one-positive, one-zero}
+use Rattle.laws.proofs.Bools.{true-not-false, bool-same, false-of, and-both, and-left, and-right, and-left-false, and-right-false, not-is-true, one-true, one-false, one-positive, one-zero}
 use Rattle.laws.proofs.All.{any-of, any-none, any-false-at, any-witness}
 use Rattle.laws.proofs.Count.{count-step, count-more}
 use Rattle.laws.proofs.Index.{holds-take, times-take}
 use Rattle.laws.proofs.Once.{EachOnce, once-facts, once-of, once-times, each-once-same}
 use Rattle.laws.proofs.Sequence.{every-at, every-append-both, holds-append-cases, holds-cases, holds-getD}
 use Rattle.laws.proofs.Falling.{falling-last, falling-getD}
-use Rattle.laws.proofs.Columns.{getD-default}
+use Rattle.laws.proofs.Places.{getD-default}
 use Rattle.rules.specs.declared.JobList.{JobList}
 use Rattle.rules.specs.State.{at, zeroList, listOf}
 use Rattle.listing.specs.Listing.{queueTest}

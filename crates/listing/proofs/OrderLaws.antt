@@ -12,7 +12,7 @@ use lib.Seq.{getD-set-same, getD-set-other}
 use borrow.Author.Tests.{ltb-true, eqb-true, eq-eqb, ne-eqb, le-leb, lt-leb}
 use Rattle.laws.specs.Range.{allTo, anyTo, countTo, tableTo}
 use Rattle.laws.specs.Sequence.{holds, timesIn, everyIn}
-use Rattle.laws.proofs.Choice.{true-not-false, false-of, and-both, and-left-false, and-right-false, or-right, one-true, one-false}
+use Rattle.laws.proofs.Bools.{true-not-false, false-of, and-both, and-left-false, and-right-false, or-right, one-true, one-false}
 use Rattle.laws.proofs.All.{any-step, any-of, any-false-at, all-false-of, all-more}
 use Rattle.laws.proofs.Count.{count-step, count-none, count-any, count-more}
 use Rattle.laws.proofs.Sequence.{every-at, every-from, times-positive}

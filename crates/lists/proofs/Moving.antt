@@ -10,9 +10,9 @@ use lib.Dec.{eqb}
 use lib.ListN.{length, getD, take, drop, set, length-append, length-take, take-append-drop}
 use lib.Seq.{take-suc, take-take, length-take-le}
 use borrow.Author.Tests.{eqb-true, eq-eqb, ne-eqb}
-use Rattle.laws.specs.Choice.{if_then_else_, one}
+use Rattle.laws.specs.Bools.{if_then_else_, one}
 use Rattle.laws.specs.Sequence.{keep, holds, timesIn, insertBefore, moveBefore, padded}
-use Rattle.laws.proofs.Choice.{case-bool, false-of}
+use Rattle.laws.proofs.Bools.{case-bool, false-of}
 use Rattle.laws.proofs.Sequence.{times-tail-le, times-head-once, lacks-head, lacks-tail, holds-of-times}
 use Rattle.laws.proofs.Move.{length-move}
 use Rattle.laws.proofs.Building.{put-at}

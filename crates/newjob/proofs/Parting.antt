@@ -8,7 +8,7 @@ use lib.ListN.{length, getD, take, set}
 use lib.Seq.{take-length}
 use Rattle.laws.specs.Range.{chosenTo}
 use Rattle.laws.specs.Sequence.{keep, padded}
-use Rattle.laws.proofs.Choice.{not-is-true, not-is-false}
+use Rattle.laws.proofs.Bools.{not-is-true, not-is-false}
 use Rattle.laws.proofs.First.{length-chosen-le, chosen-hit, chosen-miss}
 use Rattle.laws.proofs.Front.{length-front, front-more, length-snoc}
 use Rattle.laws.proofs.Building.{keep-put, keep-skip, length-keep-take}

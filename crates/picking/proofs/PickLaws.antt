@@ -9,8 +9,8 @@ use mir.Syntax.{w32}
 use mir.Val.{Fits}
 use lib.Dec.{eqb}
 use borrow.Author.Tests.{eq-eqb}
-use Rattle.laws.specs.Choice.{if_then_else_}
-use Rattle.laws.proofs.Choice.{true-not-false, case-bool, and-both}
+use Rattle.laws.specs.Bools.{if_then_else_}
+use Rattle.laws.proofs.Bools.{true-not-false, case-bool, and-both}
 use Rattle.laws.proofs.Chain.{link-cases}
 use Rattle.laws.proofs.Count.{count-le-bound}
 use Rattle.charging.proofs.Leads.{leads-inside}

@@ -8,9 +8,9 @@ use native.Mathlib.Omega.{arith}
 use lib.Dec.{eqb, ltb, leb}
 use lib.ListN.{length, getD}
 use lib.Seq.{getD-take, length-take-le}
-use Rattle.laws.specs.Choice.{if_then_else_}
+use Rattle.laws.specs.Bools.{if_then_else_}
 use Rattle.laws.specs.Range.{foldTo}
-use Rattle.laws.proofs.Choice.{if-true, if-false}
+use Rattle.laws.proofs.Bools.{if-true, if-false}
 use Rattle.laws.proofs.Table.{fold-step}
 use Rattle.rules.specs.declared.Jobs.{Jobs}
 use Rattle.rules.specs.declared.JobList.{JobList}

@@ -6,7 +6,7 @@ use mathlib.Core.List.{List}
 use lib.Dec.{eqb, leb}
 use lib.IntN.{ℤ}
 use borrow.Author.Tests.{eq-eqb, ne-eqb, le-leb, lt-leb}
-use Rattle.laws.proofs.Choice.{if-true, if-false, and-both, and-left-false, and-right-false, not-is-true, not-is-false}
+use Rattle.laws.proofs.Bools.{if-true, if-false, and-both, and-left-false, and-right-false, not-is-true, not-is-false}
 use Rattle.rules.specs.declared.Settings.{Settings}
 use Rattle.rules.specs.declared.Jobs.{Jobs}
 use Rattle.rules.specs.declared.State.{State}

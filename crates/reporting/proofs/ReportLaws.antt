@@ -9,7 +9,7 @@ use lib.ListN.{length, getD, set, List·getD-eq-default}
 use borrow.Author.Tests.{eq-eqb}
 use Rattle.laws.specs.Range.{tableTo}
 use Rattle.laws.specs.Sequence.{keep}
-use Rattle.laws.proofs.Choice.{and-both, and-left}
+use Rattle.laws.proofs.Bools.{and-both, and-left}
 use Rattle.laws.proofs.Count.{count-pos-of, count-le-bound}
 use Rattle.laws.proofs.Table.{length-table, getD-table, table-set}
 use Rattle.rules.specs.declared.Settings.{Settings}
@@ -30,7 +30,7 @@ use Rattle.rules.specs.Windows.{afterReport, woken}
 use Rattle.rules.specs.Reporting.{oneLessBusy, reportedHealth, dies, isPutOff, putOffEntries, putOffOf, kindAfter}
 use Rattle.rules.specs.Reporting.{settled, stays, parentAfter, departed, reportedAt, reporting}
 use Rattle.rules.specs.Calls.{Reply, granted, written, reportingReply}
-use Rattle.laws.specs.Choice.{if_then_else_}
+use Rattle.laws.specs.Bools.{if_then_else_}
 use Rattle.laws.specs.Chain.{firstAlong}
 use Rattle.rules.proofs.Shape.{Shaped, present-length, dropped-length, present-below}
 use Rattle.rules.proofs.RangeFacts.{sums-fit-of}

@@ -10,7 +10,7 @@ use lib.Dec.{eqb, ltb}
 use borrow.Author.Tests.{not-true, ltb-true, ltb-false, eqb-true, eq-eqb}
 use Rattle.laws.specs.Range.{anyTo, countTo}
 use Rattle.laws.proofs.All.{any-of, any-witness}
-use Rattle.laws.proofs.Choice.{if-false, case-bool, true-not-false, false-of, not-is-true, and-both, and-left, and-right, and-right-false, or-left-false, or-right-false}
+use Rattle.laws.proofs.Bools.{if-false, case-bool, true-not-false, false-of, not-is-true, and-both, and-left, and-right, and-right-false, or-left-false, or-right-false}
 use Rattle.laws.proofs.Count.{count-zero-at, count-witness}
 use Rattle.laws.proofs.Table.{getD-table}
 use Rattle.rules.specs.declared.State.{State}

@@ -7,10 +7,10 @@ use native.Mathlib.Omega.{arith}
 use lib.ListN.{length}
 use lib.Dec.{eqb, ltb}
 use borrow.Author.Tests.{ltb-true, ltb-false, eqb-true, not-false}
-use Rattle.laws.specs.Choice.{if_then_else_}
+use Rattle.laws.specs.Bools.{if_then_else_}
 use Rattle.laws.specs.Sequence.{everyIn}
-use Rattle.laws.proofs.Choice.{or-left-false, or-right-false}
-use Rattle.laws.proofs.Both.{and-3}
+use Rattle.laws.proofs.Bools.{or-left-false, or-right-false}
+use Rattle.laws.proofs.Joined.{and-3}
 use Rattle.rules.specs.declared.State.{State}
 use Rattle.rules.specs.Sizes.{lastSecond, maxEntries, maxLength}
 use Rattle.rules.specs.State.{at, isBusy}

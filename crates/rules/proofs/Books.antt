@@ -11,8 +11,8 @@ use lib.ListN.{length, length-set}
 use lib.Seq.{getD-set-same, getD-set-other}
 use lib.Dec.{eqb}
 use borrow.Author.Tests.{eq-eqb, ne-eqb}
-use Rattle.laws.specs.Choice.{if_then_else_}
-use Rattle.laws.proofs.Choice.{true-not-false, and-both, and-left-false, and-right-false, if-true, if-false}
+use Rattle.laws.specs.Bools.{if_then_else_}
+use Rattle.laws.proofs.Bools.{true-not-false, and-both, and-left-false, and-right-false, if-true, if-false}
 use Rattle.laws.proofs.All.{below-suc}
 use Rattle.laws.proofs.Newest.{newest-is, newest-same, newest-new, newest-old, getD-old, getD-new, length-new, set-field}
 use Rattle.rules.specs.declared.State.{State}

@@ -7,7 +7,7 @@ use mathlib.Core.List.{List, [], _∷_, map, foldl, foldl-append}
 use native.Mathlib.Omega.{arith}
 use lib.Dec.{eqb}
 use borrow.Author.Tests.{eqb-false}
-use Rattle.laws.specs.Choice.{if_then_else_}
+use Rattle.laws.specs.Bools.{if_then_else_}
 use Rattle.rules.specs.declared.State.{State}
 use Rattle.rules.specs.declared.Outcome.{Outcome}
 use Rattle.rules.specs.Sizes.{maxEntries}
@@ -20,7 +20,7 @@ use Rattle.rules.specs.Reporting.{reporting}
 use Rattle.rules.specs.Calls.{Reply, Call, job, pick, report, ask, board, lentTo, refusalOf, accepted, unlessRefused, takingReply, pickingReply, afterPick}
 use Rattle.rules.specs.Calls.{reportingReply, replyTo, Decision, took, putOff, takingDecisions, pickingDecision, pickDecisions, decided, decidedUnless, decisionsOn}
 use Rattle.rules.specs.SoundFacts.{Sound}
-use Rattle.rules.specs.Run.{stateFrom, decisionsFrom}
+use Rattle.rules.specs.History.{stateFrom, decisionsFrom}
 use Rattle.rules.proofs.Shape.{Shaped}
 use Rattle.rules.proofs.KeptWaking.{kept-woken}
 use Rattle.rules.proofs.Taken.{Passed}

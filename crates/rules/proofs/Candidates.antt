@@ -8,12 +8,13 @@ use native.Mathlib.Decide.{decLt}
 use native.Mathlib.Omega.{arith}
 use lib.ListN.{length}
 use borrow.Author.Tests.{eqb-true, eqb-false, leb-true, ltb-true, ltb-false, lt-ltb, le-ltb, not-true}
-use Rattle.laws.proofs.Choice.{true-not-false, if-cases, and-left, and-right, and-false-cases}
+use Rattle.laws.proofs.Bools.{true-not-false, if-cases, and-left, and-right, and-false-cases}
 use Rattle.laws.proofs.All.{below-suc}
 use Rattle.laws.specs.Sequence.{holds}
 use Rattle.laws.proofs.Sequence.{holds-place}
 use Rattle.laws.proofs.Table.{fold-keeps}
-use Rattle.laws.proofs.Tests.{and-6, fraction-less}
+use Rattle.laws.proofs.Fractions.{fraction-less}
+use Rattle.laws.proofs.Joined.{and-6}
 use Rattle.rules.specs.declared.State.{State}
 use Rattle.rules.specs.State.{at, listOf, hasPreempted, waitingOf}
 use Rattle.rules.specs.Picking.{hasEligible}

@@ -7,7 +7,7 @@ use mathlib.Core.Logic.{⊎-elim}
 use native.Mathlib.Nat.{le-trans}
 use native.Mathlib.Omega.{arith}
 use lib.ListN.{length}
-use Rattle.laws.specs.Choice.{if_then_else_}
+use Rattle.laws.specs.Bools.{if_then_else_}
 use Rattle.laws.proofs.All.{any-witness}
 use Rattle.ceiling.proofs.Ceilings.{over-ceiling, over-within, over-ceiling-free, pick-ceiling, pick-ceiling-free, blocked-none}
 use Rattle.rules.specs.declared.Setup.{Setup}
@@ -21,7 +21,7 @@ use Rattle.rules.specs.Windows.{woken}
 use Rattle.rules.specs.Refusals.{askRefusal}
 use Rattle.rules.specs.Calls.{Call, ask, granted, unlessRefused, replyTo}
 use Rattle.rules.specs.Tally.{Tally, rowAt, rowOf, linkedRow}
-use Rattle.rules.specs.Run.{stateAfter}
+use Rattle.rules.specs.History.{stateAfter}
 use Rattle.rules.specs.Demand3.{Ceilings, Demand3, Companions, Demand3Holds, costFor}
 use Rattle.rules.proofs.Shape.{Shaped, present-below}
 use Rattle.rules.proofs.Soundness.{sound-of}

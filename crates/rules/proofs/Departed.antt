@@ -11,7 +11,7 @@ use lib.Dec.{eqb}
 use borrow.Author.Tests.{eqb-true}
 use Rattle.laws.specs.Range.{anyTo, tableTo}
 use Rattle.laws.specs.Sequence.{keep}
-use Rattle.laws.proofs.Choice.{true-not-false, false-of, bool-same, and-both, and-left, and-right, and-left-false, if-true}
+use Rattle.laws.proofs.Bools.{true-not-false, false-of, bool-same, and-both, and-left, and-right, and-left-false, if-true}
 use Rattle.laws.proofs.All.{any-of}
 use Rattle.laws.proofs.Count.{count-none}
 use Rattle.laws.proofs.Keep.{keep-all}

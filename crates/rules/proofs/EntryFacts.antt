@@ -4,7 +4,7 @@ use mathlib.Core.Bool.{true, _&&_}
 use mathlib.Core.Path.{_≡_, refl}
 use lib.Dec.{eqb}
 use borrow.Author.Tests.{eqb-true, eq-eqb}
-use Rattle.laws.proofs.Choice.{not-is-true, and-both, and-left, and-right}
+use Rattle.laws.proofs.Bools.{not-is-true, and-both, and-left, and-right}
 use Rattle.laws.proofs.All.{any-of, any-witness}
 use Rattle.laws.proofs.Count.{count-pos-of}
 use Rattle.rules.specs.declared.State.{State}

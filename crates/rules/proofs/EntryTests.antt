@@ -4,7 +4,7 @@ use mathlib.Core.Path.{_≡_, _∙_, ap}
 use mathlib.Core.Bool.{true, false, not}
 use lib.Dec.{eqb}
 use borrow.Author.Tests.{eqb-true, eq-eqb, not-true}
-use Rattle.laws.proofs.Choice.{true-not-false, false-of, and-both, and-left, and-right, not-is-true}
+use Rattle.laws.proofs.Bools.{true-not-false, false-of, and-both, and-left, and-right, not-is-true}
 use Rattle.laws.proofs.Count.{count-none}
 use Rattle.rules.specs.declared.State.{State}
 use Rattle.rules.specs.Sizes.{maxEntries}

@@ -11,11 +11,11 @@ use lib.ListN.{length, take, drop, length-append, length-take, length-drop, leng
 use lib.Seq.{getD-set-same, getD-set-other, getD-append-add, getD-take, getD-drop}
 use lib.Dec.{ltb}
 use borrow.Author.Tests.{ltb-true, ltb-false, lt-ltb}
-use Rattle.laws.specs.Choice.{if_then_else_}
+use Rattle.laws.specs.Bools.{if_then_else_}
 use Rattle.laws.specs.Range.{countTo, chosenTo, foldTo}
 use Rattle.laws.specs.Sequence.{padded}
-use Rattle.laws.proofs.Choice.{true-not-false, case-bool, if-true, if-false, and-both, and-left, and-right, and-left-false, and-right-false, one-true}
-use Rattle.laws.proofs.Choice.{one-false}
+use Rattle.laws.proofs.Bools.{true-not-false, case-bool, if-true, if-false, and-both, and-left, and-right, and-left-false, and-right-false, one-true}
+use Rattle.laws.proofs.Bools.{one-false}
 use Rattle.laws.proofs.First.{chosen-below, chosen-passes, chosen-place, chosen-at, chosen-rises}
 use Rattle.laws.proofs.Sequence.{length-padded, getD-padded}
 use Rattle.rules.specs.State.{at}

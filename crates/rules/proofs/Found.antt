@@ -4,7 +4,7 @@ use mathlib.Core.Path.{_≡_, refl, sym, _∙_, ap}
 use mathlib.Core.Bool.{Bool, true, false}
 use native.Mathlib.Omega.{arith}
 use lib.ListN.{length}
-use Rattle.laws.specs.Choice.{if_then_else_}
+use Rattle.laws.specs.Bools.{if_then_else_}
 use Rattle.laws.specs.Range.{anyTo}
 use Rattle.rules.specs.declared.State.{State}
 use Rattle.rules.specs.declared.PickAnswer.{PickAnswer}

@@ -8,11 +8,11 @@ use lib.ListN.{length}
 use lib.Seq.{getD-set-same, getD-set-other}
 use lib.Dec.{eqb}
 use borrow.Author.Tests.{eq-eqb, ne-eqb}
-use Rattle.laws.specs.Choice.{one}
+use Rattle.laws.specs.Bools.{one}
 use Rattle.laws.specs.Range.{countTo}
-use Rattle.laws.proofs.Choice.{one-true, one-false}
+use Rattle.laws.proofs.Bools.{one-true, one-false}
 use Rattle.laws.proofs.Count.{count-change}
-use Rattle.laws.proofs.Columns.{set-all}
+use Rattle.laws.proofs.Places.{set-all}
 use Rattle.rules.specs.declared.State.{State}
 use Rattle.rules.specs.Sizes.{maxJobs, maxEntries}
 use Rattle.rules.specs.State.{at, transportOf, isFree, isWaiting, isBusy, jobOf, destinationOf, waitsOf, busyOf, usedOf, waitingOf}

@@ -8,8 +8,8 @@ use borrow.Author.Tests.{leb-true, eqb-true, le-leb, eq-eqb}
 use Rattle.laws.specs.Range.{allTo, anyTo, countTo}
 use Rattle.laws.specs.Chain.{endsIn}
 use Rattle.laws.specs.Sequence.{holds, timesIn, everyIn}
-use Rattle.laws.proofs.Choice.{and-both, and-left, and-right}
-use Rattle.laws.proofs.Both.{and-3, and-4, and-8}
+use Rattle.laws.proofs.Bools.{and-both, and-left, and-right}
+use Rattle.laws.proofs.Joined.{and-3, and-4, and-8}
 use Rattle.laws.proofs.All.{all-at, all-from}
 use Rattle.laws.proofs.Sequence.{every-at, every-from}
 use Rattle.rules.specs.declared.State.{State}

@@ -9,7 +9,7 @@ use lib.Dec.{eqb}
 use borrow.Author.Tests.{lt-ltb}
 use Rattle.laws.specs.Range.{countTo}
 use Rattle.laws.specs.Sequence.{holds, neverFalling, padded}
-use Rattle.laws.proofs.Choice.{true-not-false, if-true, and-left-false}
+use Rattle.laws.proofs.Bools.{true-not-false, if-true, and-left-false}
 use Rattle.laws.proofs.Count.{count-none}
 use Rattle.laws.proofs.Once.{once-none, once-of}
 use Rattle.laws.proofs.Table.{getD-table, length-table}

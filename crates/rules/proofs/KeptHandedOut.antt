@@ -8,9 +8,9 @@ use native.Mathlib.Omega.{arith}
 use lib.ListN.{length-set}
 use borrow.Author.Tests.{eq-eqb, ne-eqb}
 use Rattle.laws.specs.Range.{anyTo, countTo}
-use Rattle.laws.proofs.Choice.{true-not-false, one-true, one-false}
+use Rattle.laws.proofs.Bools.{true-not-false, one-true, one-false}
 use Rattle.laws.proofs.All.{any-same}
-use Rattle.laws.proofs.Columns.{set-all}
+use Rattle.laws.proofs.Places.{set-all}
 use Rattle.rules.specs.declared.State.{State}
 use Rattle.rules.specs.Sizes.{maxJobs, maxEntries}
 use Rattle.rules.specs.State.{at, transportOf, isFree, isWaiting, isBusy, destinationOf, isPresent, busyOf, usedOf, waitingOf}

@@ -15,7 +15,7 @@ use Rattle.laws.proofs.Sequence.{length-padded, take-padded}
 use Rattle.laws.proofs.Move.{length-move}
 use Rattle.laws.proofs.Once.{once-move, once-of}
 use Rattle.laws.proofs.ChainAmong.{ends-among}
-use Rattle.laws.proofs.Columns.{set-all}
+use Rattle.laws.proofs.Places.{set-all}
 use Rattle.rules.specs.declared.State.{State}
 use Rattle.rules.specs.Sizes.{sumLimit, maxTransports, maxJobs}
 use Rattle.rules.specs.State.{at, settingsOf, zeroList, listOf, listed, queueOf, isPresent, waitsOf, busyOf, usedOf, waitingOf, parentOf}

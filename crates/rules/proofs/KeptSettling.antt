@@ -10,7 +10,7 @@ use lib.ListN.{length-set}
 use lib.Seq.{getD-set-same, getD-set-other}
 use Rattle.laws.specs.Range.{anyTo, countTo}
 use Rattle.laws.specs.Sequence.{holds}
-use Rattle.laws.proofs.Choice.{true-not-false}
+use Rattle.laws.proofs.Bools.{true-not-false}
 use Rattle.laws.proofs.All.{any-imp}
 use Rattle.laws.proofs.Count.{count-le}
 use Rattle.laws.proofs.Table.{getD-table, length-table}

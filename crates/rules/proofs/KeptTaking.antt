@@ -8,7 +8,7 @@ use native.Mathlib.Decide.{ℕ-discrete}
 use lib.ListN.{length, getD, length-set}
 use lib.Dec.{eqb}
 use Rattle.laws.specs.Sequence.{holds}
-use Rattle.laws.proofs.Choice.{true-not-false}
+use Rattle.laws.proofs.Bools.{true-not-false}
 use Rattle.laws.proofs.Count.{count-same}
 use Rattle.laws.proofs.Sequence.{length-padded}
 use Rattle.laws.proofs.Once.{once-of}

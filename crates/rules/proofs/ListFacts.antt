@@ -7,7 +7,7 @@ use lib.ListN.{length}
 use lib.Dec.{eqb}
 use borrow.Author.Tests.{eqb-true, eq-eqb}
 use Rattle.laws.specs.Sequence.{holds}
-use Rattle.laws.proofs.Choice.{and-both, and-left, and-right}
+use Rattle.laws.proofs.Bools.{and-both, and-left, and-right}
 use Rattle.laws.proofs.Count.{count-le-bound}
 use Rattle.laws.proofs.Once.{EachOnce, once-facts, once-holds, once-length}
 use Rattle.laws.proofs.Sequence.{take-padded}

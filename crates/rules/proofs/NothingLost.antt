@@ -10,9 +10,9 @@ use native.Mathlib.Omega.{arith}
 use lib.ListN.{length}
 use lib.Dec.{eqb}
 use borrow.Author.Tests.{eqb-true, eq-eqb, ne-eqb}
-use Rattle.laws.specs.Choice.{if_then_else_, one}
+use Rattle.laws.specs.Bools.{if_then_else_, one}
 use Rattle.laws.specs.Sequence.{timesIn}
-use Rattle.laws.proofs.Choice.{true-not-false, case-bool, one-true, one-false, if-true, if-false}
+use Rattle.laws.proofs.Bools.{true-not-false, case-bool, one-true, one-false, if-true, if-false}
 use Rattle.laws.proofs.Newest.{newest-is, set-field}
 use Rattle.laws.proofs.Sequence.{times-cons, times-single}
 use Rattle.rules.specs.declared.Setup.{Setup}
@@ -29,7 +29,7 @@ use Rattle.rules.specs.Preemption.{preempting}
 use Rattle.rules.specs.Pick.{handedOut, pickFrom, picking}
 use Rattle.rules.specs.Reporting.{reporting}
 use Rattle.rules.specs.Calls.{took, putOff, Call, pickingDecision}
-use Rattle.rules.specs.Run.{stateAfter}
+use Rattle.rules.specs.History.{stateAfter}
 use Rattle.rules.specs.Ledger.{Account, noAccount, accountAt, accountOf, booked, entered, accountsOf, stillWaiting}
 use Rattle.rules.proofs.Shape.{Shaped}
 use Rattle.rules.proofs.EntryTests.{absent-waiting}

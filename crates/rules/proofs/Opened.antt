@@ -1,6 +1,6 @@
 -- What a computed example computes with: `unfolding rules` opens every definition that a run of calls meets. To unfold a definition is to unfold
 -- what its own line names, and these are nothing but such lines, one for each file of definitions.
-use Rattle.laws.specs.Choice.{if_then_else_, one}
+use Rattle.laws.specs.Bools.{if_then_else_, one}
 use Rattle.laws.specs.Range.{allTo, anyTo, countTo, firstTo, chosenTo, tableTo, foldTo, sumTo, lastTo}
 use Rattle.laws.specs.Sequence.{keep, holds, firstOf, upTo, insertBefore, moveBefore, padded, everyIn, countIn, holdsEachOnce, neverFalling, firstsTo, timesIn}
 use Rattle.laws.specs.Chain.{alongChain, endsIn, firstAlong}
@@ -24,7 +24,7 @@ use Rattle.rules.specs.Calls.{unlessRefused, setupReply, takingReply, pi
 use Rattle.rules.specs.Calls.{takingDecisions, pickDecisions, decidedUnless, decisionsOn}
 use Rattle.rules.specs.Tally.{noTally, rowOf, countsOn, newRow, withJob, overtakenBy, naming, noting, overtaken, withPreemption, preemptedRows}
 use Rattle.rules.specs.Tally.{withPickAt, withPick, tallied}
-use Rattle.rules.specs.Run.{stateFrom, decisionsFrom, tallyOf}
+use Rattle.rules.specs.History.{stateFrom, decisionsFrom, tallyOf}
 use Rattle.rules.specs.Examples.{shown, windowShown, windowsFailing, succeeded, served, exactAt}
 
 unfoldable pub ranges : Unit {0}

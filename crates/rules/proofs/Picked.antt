@@ -6,12 +6,12 @@ use lib.Dec.{eqb}
 use borrow.Author.Tests.{eqb-true, eq-eqb, ltb-true, not-true}
 use Rattle.laws.specs.Range.{anyTo, firstTo, tableTo}
 use Rattle.laws.specs.Sequence.{holds, firstOf, upTo}
-use Rattle.laws.proofs.Choice.{bool-same, and-both, and-left, and-right}
+use Rattle.laws.proofs.Bools.{bool-same, and-both, and-left, and-right}
 use Rattle.laws.proofs.All.{any-of, any-witness}
 use Rattle.laws.proofs.First.{first-any, first-holds}
 use Rattle.laws.proofs.Table.{length-table, getD-table}
 use Rattle.laws.proofs.Sequence.{holds-place, every-at}
-use Rattle.laws.proofs.Found.{first-of-in, first-of-passes, up-to-first}
+use Rattle.laws.proofs.FirstOf.{first-of-in, first-of-passes, up-to-first}
 use Rattle.rules.specs.declared.State.{State}
 use Rattle.rules.specs.Sizes.{maxJobs, maxEntries}
 use Rattle.rules.specs.State.{at, transportOf, queueOf, isWaiting, jobOf, destinationOf, isPresent, orderAt}

@@ -11,11 +11,11 @@ use lib.Dec.{eqb, ltb}
 use borrow.Author.Tests.{eqb-false, leb-true, not-true}
 use Rattle.laws.specs.Sequence.{holds}
 use Rattle.laws.specs.Order.{Before}
-use Rattle.laws.proofs.Choice.{true-not-false, case-bool, if-true, if-false}
+use Rattle.laws.proofs.Bools.{true-not-false, case-bool, if-true, if-false}
 use Rattle.laws.proofs.Sequence.{holds-getD}
 use Rattle.laws.proofs.Order.{before-total, before-up-to}
 use Rattle.laws.proofs.Once.{once-facts, once-le}
-use Rattle.laws.proofs.Both.{and-4}
+use Rattle.laws.proofs.Joined.{and-4}
 use Rattle.rules.specs.declared.State.{State}
 use Rattle.rules.specs.Sizes.{maxJobs}
 use Rattle.rules.specs.State.{at, settingsOf, listOf, queueOf, isPresent, hasPreempted, waitingOf}

@@ -9,9 +9,8 @@ use lib.ListN.{getD}
 use lib.Dec.{eqb, ltb, leb}
 use borrow.Author.Tests.{eqb-true, ltb-true, leb-true, lt-ltb, le-leb}
 use Rattle.laws.specs.Range.{allTo}
-use Rattle.laws.proofs.Choice.{true-not-false, and-both, and-left, and-right, or-cases}
-use Rattle.laws.proofs.Both.{and-4}
-use Rattle.laws.proofs.Tests.{and-5, and-6}
+use Rattle.laws.proofs.Bools.{true-not-false, and-both, and-left, and-right, or-cases}
+use Rattle.laws.proofs.Joined.{and-4, and-5, and-6}
 use Rattle.laws.proofs.All.{all-at, all-from}
 use Rattle.rules.specs.declared.Feedback.{Feedback}
 use Rattle.rules.specs.declared.Settings.{Settings}

@@ -14,7 +14,7 @@ use Rattle.rules.specs.Taking.{keptOf, nOf, newNumber}
 use Rattle.rules.specs.Calls.{putOff, Call}
 use Rattle.rules.specs.Reporting.{reporting}
 use Rattle.rules.specs.Tally.{Tally, noTally, tallied}
-use Rattle.rules.specs.Run.{stateAfter, tallyOf}
+use Rattle.rules.specs.History.{stateAfter, tallyOf}
 use Rattle.rules.proofs.Shape.{Shaped}
 use Rattle.rules.proofs.RangeFacts.{in-range-facts}
 use Rattle.rules.proofs.KeptFresh.{kept-fresh}

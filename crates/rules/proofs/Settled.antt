@@ -7,10 +7,10 @@ use native.Mathlib.Omega.{arith}
 use native.Mathlib.Decide.{ℕ-discrete}
 use lib.Dec.{eqb}
 use borrow.Author.Tests.{eqb-true, eq-eqb, ne-eqb}
-use Rattle.laws.specs.Choice.{if_then_else_}
-use Rattle.laws.proofs.Choice.{true-not-false, case-bool, false-of, bool-same, and-both, and-left, and-right, and-left-false, and-right-false}
-use Rattle.laws.proofs.Choice.{if-true, if-false, eqb-self}
-use Rattle.laws.proofs.Both.{and-3}
+use Rattle.laws.specs.Bools.{if_then_else_}
+use Rattle.laws.proofs.Bools.{true-not-false, case-bool, false-of, bool-same, and-both, and-left, and-right, and-left-false, and-right-false}
+use Rattle.laws.proofs.Bools.{if-true, if-false, eqb-self}
+use Rattle.laws.proofs.Joined.{and-3}
 use Rattle.laws.proofs.Count.{count-same, count-split}
 use Rattle.laws.proofs.Table.{getD-table}
 use Rattle.rules.specs.declared.Health.{Health}

@@ -9,7 +9,7 @@ use lib.Seq.{getD-set-same, getD-set-other}
 use lib.Dec.{eqb}
 use borrow.Author.Tests.{ne-eqb}
 use Rattle.laws.specs.Range.{countTo}
-use Rattle.laws.proofs.Choice.{true-not-false, and-both, and-left, and-left-false, and-right-false, eqb-self, and-right}
+use Rattle.laws.proofs.Bools.{true-not-false, and-both, and-left, and-left-false, and-right-false, eqb-self, and-right}
 use Rattle.laws.proofs.Count.{count-same, count-lose}
 use Rattle.rules.specs.declared.Health.{Health}
 use Rattle.rules.specs.declared.State.{State}

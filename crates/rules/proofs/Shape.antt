@@ -6,7 +6,7 @@ use mathlib.Core.List.{List, [], _∷_}
 use native.Mathlib.Decide.{decLt}
 use native.Mathlib.Omega.{arith}
 use lib.ListN.{length, getD, List·getD-eq-default}
-use Rattle.laws.proofs.Choice.{true-not-false}
+use Rattle.laws.proofs.Bools.{true-not-false}
 use Rattle.rules.specs.declared.Busy.{Busy}
 use Rattle.rules.specs.declared.Jobs.{Jobs}
 use Rattle.rules.specs.declared.Entries.{Entries}

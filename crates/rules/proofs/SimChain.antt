@@ -9,7 +9,7 @@ use lib.Dec.{eqb}
 use borrow.Author.Tests.{eqb-true, eq-eqb}
 use Rattle.laws.specs.Chain.{endsIn, firstAlong}
 use Rattle.laws.specs.Onto.{onChain, near}
-use Rattle.laws.proofs.Choice.{bool-same}
+use Rattle.laws.proofs.Bools.{bool-same}
 use Rattle.laws.proofs.Chain.{first-along-here, first-along-passes}
 use Rattle.laws.proofs.Onto.{on-enough, ends-near, on-near}
 use Rattle.ceiling.specs.Columns.{Columns}

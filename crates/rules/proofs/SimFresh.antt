@@ -5,8 +5,8 @@ use mathlib.Core.Bool.{false}
 use mathlib.Core.List.{[]}
 use native.Mathlib.Nat.{not-suc-le-zero}
 use Rattle.laws.specs.Order.{Before}
-use Rattle.laws.proofs.Choice.{true-not-false}
-use Rattle.laws.proofs.Columns.{getD-repeated}
+use Rattle.laws.proofs.Bools.{true-not-false}
+use Rattle.laws.proofs.Places.{getD-repeated}
 use Rattle.ceiling.specs.Columns.{Columns}
 use Rattle.ceiling.specs.Steps.{fresh}
 use Rattle.ceiling.proofs.Invariant.{inv-fresh, inv-leave}

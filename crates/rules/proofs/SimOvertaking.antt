@@ -6,10 +6,10 @@ use native.Mathlib.Nat.{suc-inj, lt-suc-self, lt-trans, suc-ne-zero}
 use native.Mathlib.Omega.{arith}
 use lib.ListN.{length, length-set}
 use lib.Seq.{getD-set-same, getD-set-other}
-use Rattle.laws.specs.Choice.{if_then_else_}
+use Rattle.laws.specs.Bools.{if_then_else_}
 use Rattle.laws.specs.Chain.{alongChain}
 use Rattle.laws.specs.Onto.{onChain, near}
-use Rattle.laws.proofs.Choice.{if-true}
+use Rattle.laws.proofs.Bools.{if-true}
 use Rattle.laws.proofs.Update.{upd-same, upd-other}
 use Rattle.laws.proofs.Chain.{along-enough, first-along-ok}
 use Rattle.laws.proofs.Onto.{along-at, on-ok}

@@ -11,7 +11,7 @@ use native.Mathlib.Omega.{arith}
 use lib.ListN.{length, length-set}
 use Rattle.laws.specs.Update.{upd}
 use Rattle.laws.specs.Onto.{near}
-use Rattle.laws.proofs.Choice.{true-not-false}
+use Rattle.laws.proofs.Bools.{true-not-false}
 use Rattle.laws.proofs.Update.{upd-same, upd-other, at-or-off, upd-agree}
 use Rattle.laws.proofs.Onto.{near-same}
 use Rattle.ceiling.specs.Columns.{Columns}

@@ -11,10 +11,10 @@ use lib.Dec.{ltb}
 use borrow.Author.Tests.{lt-ltb}
 use Rattle.laws.specs.Order.{Before}
 use Rattle.laws.specs.Sequence.{holds, upTo, moveBefore}
-use Rattle.laws.proofs.Choice.{true-not-false, true-of, and-both}
-use Rattle.laws.proofs.Both.{and-3}
+use Rattle.laws.proofs.Bools.{true-not-false, true-of, and-both}
+use Rattle.laws.proofs.Joined.{and-3}
 use Rattle.laws.proofs.Sequence.{count-in-pos-of}
-use Rattle.laws.proofs.Found.{up-to-in}
+use Rattle.laws.proofs.FirstOf.{up-to-in}
 use Rattle.laws.proofs.Once.{once-le}
 use Rattle.laws.proofs.Order.{before-total, before-up-to}
 use Rattle.laws.proofs.MoveOrder.{before-move-target, before-move-after}

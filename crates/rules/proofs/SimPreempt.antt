@@ -12,7 +12,7 @@ use Rattle.laws.specs.Onto.{near}
 use Rattle.laws.specs.Order.{Before}
 use Rattle.laws.specs.Sequence.{moveBefore}
 use Rattle.laws.specs.Update.{upd}
-use Rattle.laws.proofs.Choice.{true-not-false}
+use Rattle.laws.proofs.Bools.{true-not-false}
 use Rattle.laws.proofs.Update.{upd-same, upd-other, upd-all, upd-agree-at}
 use Rattle.laws.proofs.Chain.{first-along-here, first-along-same}
 use Rattle.laws.proofs.Onto.{near-same}

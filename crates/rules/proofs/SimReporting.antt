@@ -6,11 +6,11 @@ use native.Mathlib.Nat.{suc-inj}
 use native.Mathlib.Omega.{arith}
 use lib.ListN.{getD}
 use lib.Dec.{eqb}
-use Rattle.laws.specs.Choice.{if_then_else_}
+use Rattle.laws.specs.Bools.{if_then_else_}
 use Rattle.laws.specs.Chain.{endsIn, firstAlong}
 use Rattle.laws.specs.Onto.{near}
 use Rattle.laws.specs.Order.{Before}
-use Rattle.laws.proofs.Choice.{true-not-false, case-bool, false-of, bool-same, if-true, if-false, if-cases, and-both, and-left, and-right}
+use Rattle.laws.proofs.Bools.{true-not-false, case-bool, false-of, bool-same, if-true, if-false, if-cases, and-both, and-left, and-right}
 use Rattle.laws.proofs.Chain.{first-along-enough}
 use Rattle.laws.proofs.Onto.{ends-near, first-near, near-same}
 use Rattle.laws.proofs.Order.{before-kept}

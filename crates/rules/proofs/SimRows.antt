@@ -9,7 +9,7 @@ use lib.ListN.{length, set}
 use lib.Seq.{getD-set-same, getD-set-other}
 use lib.Dec.{eqb}
 use borrow.Author.Tests.{eqb-true, eq-eqb}
-use Rattle.laws.proofs.Choice.{and-both, and-left, and-right}
+use Rattle.laws.proofs.Bools.{and-both, and-left, and-right}
 use Rattle.laws.proofs.Newest.{set-field}
 use Rattle.ceiling.specs.Columns.{Columns}
 use Rattle.rules.specs.declared.Setup.{Setup}

@@ -10,13 +10,13 @@ use native.Mathlib.Omega.{arith}
 use lib.ListN.{length}
 use lib.Dec.{eqb}
 use borrow.Author.Tests.{ne-eqb}
-use Rattle.laws.specs.Choice.{if_then_else_}
+use Rattle.laws.specs.Bools.{if_then_else_}
 use Rattle.laws.specs.Range.{sumTo}
 use Rattle.laws.specs.Chain.{firstAlong}
 use Rattle.laws.specs.Onto.{near}
 use Rattle.laws.specs.Order.{Before}
 use Rattle.laws.specs.Sequence.{holds}
-use Rattle.laws.proofs.Choice.{true-not-false, and-left-false, and-right-false}
+use Rattle.laws.proofs.Bools.{true-not-false, and-left-false, and-right-false}
 use Rattle.laws.proofs.Update.{upd-same, upd-below}
 use Rattle.laws.proofs.Sum.{sum-eq}
 use Rattle.laws.proofs.All.{below-suc}

@@ -8,8 +8,8 @@ use lib.Dec.{eqb, ltb, leb}
 use borrow.Author.Tests.{ltb-true, leb-true, eqb-true, lt-ltb, le-leb, eq-eqb, not-true}
 use Rattle.laws.specs.Range.{allTo, anyTo, countTo}
 use Rattle.laws.specs.Sequence.{everyIn, holdsEachOnce, neverFalling}
-use Rattle.laws.proofs.Choice.{true-not-false, case-bool, false-of, and-both, and-left, and-right, or-left, or-right, or-cases, not-is-true}
-use Rattle.laws.proofs.Both.{and-3, and-4, and-8}
+use Rattle.laws.proofs.Bools.{true-not-false, case-bool, false-of, and-both, and-left, and-right, or-left, or-right, or-cases, not-is-true}
+use Rattle.laws.proofs.Joined.{and-3, and-4, and-8}
 use Rattle.laws.proofs.All.{all-at, all-from, any-none, any-false-at}
 use Rattle.laws.proofs.Sequence.{every-at, every-from}
 use Rattle.rules.specs.declared.Sums.{Sums}

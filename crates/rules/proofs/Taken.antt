@@ -9,10 +9,10 @@ use lib.ListN.{length}
 use lib.Seq.{getD-set-same, getD-set-other}
 use lib.Dec.{eqb, ltb}
 use borrow.Author.Tests.{ltb-true, ltb-false, eqb-true, not-true, not-false}
-use Rattle.laws.specs.Choice.{if_then_else_}
+use Rattle.laws.specs.Bools.{if_then_else_}
 use Rattle.laws.specs.Range.{allTo, countTo}
 use Rattle.laws.specs.Sequence.{everyIn}
-use Rattle.laws.proofs.Choice.{true-not-false, and-left, and-right, and-false-cases, not-is-true}
+use Rattle.laws.proofs.Bools.{true-not-false, and-left, and-right, and-false-cases, not-is-true}
 use Rattle.laws.proofs.All.{all-false-witness}
 use Rattle.laws.proofs.First.{first-holds, first-found, chosen-below}
 use Rattle.laws.proofs.Firsts.{firsts-length}

@@ -6,7 +6,7 @@ use mathlib.Core.Bool.{true, false}
 use mathlib.Core.List.{List}
 use lib.ListN.{length}
 use lib.Dec.{eqb}
-use Rattle.laws.proofs.Choice.{true-not-false, case-bool, false-of, and-left-false, if-true, if-false}
+use Rattle.laws.proofs.Bools.{true-not-false, case-bool, false-of, and-left-false, if-true, if-false}
 use Rattle.laws.proofs.Count.{count-same}
 use Rattle.rules.specs.declared.State.{State}
 use Rattle.rules.specs.Sizes.{maxEntries}

@@ -12,7 +12,7 @@ use borrow.Author.Tests.{eq-eqb}
 use lib.Dec.{eqb}
 use Rattle.laws.specs.Range.{anyTo}
 use Rattle.laws.specs.Sequence.{holds, timesIn}
-use Rattle.laws.proofs.Choice.{true-not-false}
+use Rattle.laws.proofs.Bools.{true-not-false}
 use Rattle.laws.proofs.All.{any-of, any-imp}
 use Rattle.laws.proofs.Count.{count-same, count-none, count-witness}
 use Rattle.laws.proofs.Sequence.{times-positive}

@@ -11,7 +11,7 @@ use lib.Seq.{getD-set-same, getD-set-other}
 use lib.Dec.{eqb}
 use borrow.Author.Tests.{eq-eqb, ne-eqb}
 use Rattle.laws.specs.Sequence.{holds, neverFalling}
-use Rattle.laws.proofs.Choice.{true-not-false, and-both, and-left-false, and-right-false}
+use Rattle.laws.proofs.Bools.{true-not-false, and-both, and-left-false, and-right-false}
 use Rattle.laws.proofs.Sequence.{holds-append-cases, holds-cases}
 use Rattle.laws.proofs.Once.{EachOnce, once-append, once-same}
 use Rattle.laws.proofs.Falling.{falling-same, falling-last}

@@ -8,7 +8,7 @@ use native.Mathlib.Omega.{arith}
 use lib.Dec.{ltb}
 use borrow.Author.Tests.{ltb-true, lt-ltb}
 use Rattle.laws.specs.Range.{anyTo}
-use Rattle.laws.proofs.Choice.{bool-same}
+use Rattle.laws.proofs.Bools.{bool-same}
 use Rattle.laws.proofs.All.{any-of, any-witness}
 use Rattle.laws.proofs.First.{first-holds, first-some}
 use Rattle.rules.specs.Picking.{stepsTo}

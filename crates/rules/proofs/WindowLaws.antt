@@ -6,7 +6,7 @@ use native.Mathlib.Nat.{div-le-of-le-mul}
 use native.Mathlib.Omega.{arith}
 use lib.Dec.{eqb, ltb, leb}
 use borrow.Author.Tests.{ltb-true, ltb-false, leb-true, leb-false}
-use Rattle.laws.proofs.Choice.{if-cases}
+use Rattle.laws.proofs.Bools.{if-cases}
 use Rattle.rules.specs.declared.Feedback.{Feedback}
 use Rattle.rules.specs.declared.Settings.{Settings}
 use Rattle.rules.specs.declared.Sums.{Sums}

@@ -4,7 +4,7 @@ use Prim.Native.Nat.{ℕ, zero, suc}
 use mathlib.Core.List.{List, [], _∷_, _++_, map}
 use lib.ListN.{length, drop}
 use lib.Dec.{eqb}
-use Rattle.laws.specs.Choice.{if_then_else_}
+use Rattle.laws.specs.Bools.{if_then_else_}
 use Rattle.rules.specs.declared.Setup.{Setup}
 use Rattle.rules.specs.declared.State.{State}
 use Rattle.rules.specs.declared.Outcome.{Outcome}

@@ -15,7 +15,7 @@ use Rattle.rules.specs.Picking.{eligible, finds}
 use Rattle.rules.specs.Refusals.{pickRefusal}
 use Rattle.rules.specs.Calls.{Call, granted, replyTo}
 use Rattle.rules.specs.Tally.{Row, rowAt, rowOf, linkedRow}
-use Rattle.rules.specs.Run.{stateAfter, tallyOf}
+use Rattle.rules.specs.History.{stateAfter, tallyOf}
 use Rattle.rules.specs.Ledger.{accountAt, accountsOf, stillWaiting}
 
 -- the slot cost of a row's transport

@@ -18,7 +18,7 @@ use Rattle.rules.specs.State.{at, destinationOf, zeroSettings}
 use Rattle.rules.specs.Setup.{firstState}
 use Rattle.rules.specs.Windows.{feedback, cohortShare, afterSuccess, afterFailure}
 use Rattle.rules.specs.Calls.{Reply, Call, job, pickReply, reportReply, setupReply}
-use Rattle.rules.specs.Run.{stateFrom}
+use Rattle.rules.specs.History.{stateFrom}
 
 abbrev pub flat : ℕ → Feedback
 flat p = record { percent = p; form = 0 }

@@ -4,14 +4,14 @@ use mathlib.Core.Bool.{_&&_}
 use mathlib.Core.List.{List, [], _∷_, _++_, foldl}
 use lib.ListN.{getD, set}
 use lib.Dec.{eqb}
-use Rattle.laws.specs.Choice.{if_then_else_}
+use Rattle.laws.specs.Bools.{if_then_else_}
 use Rattle.laws.specs.Newest.{newest}
 use Rattle.rules.specs.declared.Setup.{Setup}
 use Rattle.rules.specs.declared.State.{State}
 use Rattle.rules.specs.State.{isPresent, waitingOf}
 use Rattle.rules.specs.Setup.{freshState}
 use Rattle.rules.specs.Calls.{Call, Decision, took, picked, putOff}
-use Rattle.rules.specs.Run.{decisionsFrom}
+use Rattle.rules.specs.History.{decisionsFrom}
 
 pub record Account : Type 0 where
   pub job : ℕ

@@ -16,7 +16,7 @@ pub mod Calls
 pub mod Answers
 pub mod Gave
 pub mod Tally
-pub mod Run
+pub mod History
 pub mod Ledger
 pub mod Demand3
 pub mod Examples

@@ -4,7 +4,7 @@ use mathlib.Core.Bool.{Bool, not, _&&_}
 use mathlib.Core.List.{List}
 use lib.ListN.{set}
 use lib.Dec.{eqb}
-use Rattle.laws.specs.Choice.{if_then_else_}
+use Rattle.laws.specs.Bools.{if_then_else_}
 use Rattle.laws.specs.Range.{anyTo, countTo, chosenTo, tableTo}
 use Rattle.laws.specs.Chain.{firstAlong}
 use Rattle.laws.specs.Sequence.{keep}

@@ -8,7 +8,7 @@ use Rattle.rules.specs.declared.Outcome.the-variants.{Success}
 use Rattle.rules.specs.State.{zeroSettings}
 use Rattle.rules.specs.Calls.{Call, job, pick, report}
 use Rattle.rules.specs.Tally.{Row}
-use Rattle.rules.specs.Run.{tallyOf}
+use Rattle.rules.specs.History.{tallyOf}
 use Rattle.rules.specs.Examples.{perWindow, defaults, oneTransport, buffer, jobTo0}
 
 -- job, transport, n, N, overtakers, the link to the row that it names, last pick, its total

@@ -9,7 +9,7 @@ use lib.Seq.{take-all, length-take-le}
 use borrow.Rule.Slice.PartMut.{putMid}
 use Rattle.rules.specs.declared.State.{State}
 use Rattle.rules.specs.Calls.{Reply, Call, replyTo}
-use Rattle.rules.specs.Run.{stateFrom}
+use Rattle.rules.specs.History.{stateFrom}
 use Rattle.laws.specs.Wrote.{Wrote}
 use Rattle.laws.proofs.Writing.{wrote-length, back-is, beside}
 use Rattle.layout.specs.Layout.{sizeOf, listPlaces, textPlaces, callOf, rowLength, endBefore, Reading, thenRead, reading}

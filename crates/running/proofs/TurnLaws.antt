@@ -9,7 +9,7 @@ use lib.Seq.{drop-drop}
 use borrow.Rule.Slice.PartMut.{putMid}
 use Rattle.rules.specs.declared.State.{State}
 use Rattle.rules.specs.Calls.{Call}
-use Rattle.rules.specs.Run.{stateFrom}
+use Rattle.rules.specs.History.{stateFrom}
 use Rattle.laws.specs.Wrote.{Wrote}
 use Rattle.laws.proofs.Writing.{wrote-none}
 use Rattle.layout.specs.Layout.{word, headOf, sizeOf, listPlaces, textPlaces, callOf, rowLength, endBefore, reading}

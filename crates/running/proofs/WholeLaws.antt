@@ -3,8 +3,8 @@ use Prim.Native.Nat.{ℕ}
 use mathlib.Core.Path.{_≡_, refl, sym, _∙_, ap}
 use mathlib.Core.Bool.{Bool, true, false}
 use mathlib.Core.List.{List}
-use Rattle.laws.specs.Choice.{if_then_else_}
-use Rattle.laws.proofs.Choice.{true-not-false}
+use Rattle.laws.specs.Bools.{if_then_else_}
+use Rattle.laws.proofs.Bools.{true-not-false}
 use Rattle.rules.specs.declared.Setup.{Setup}
 use Rattle.rules.specs.declared.State.{State}
 use Rattle.rules.specs.declared.SetupAnswer.{SetupAnswer}

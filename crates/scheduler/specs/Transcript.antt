@@ -7,7 +7,7 @@ use Rattle.rules.specs.declared.State.{State}
 use Rattle.rules.specs.declared.SetupReply.{SetupReply}
 use Rattle.rules.specs.Setup.{freshState}
 use Rattle.rules.specs.Calls.{Reply, Call, replyTo}
-use Rattle.rules.specs.Run.{repliesFrom}
+use Rattle.rules.specs.History.{repliesFrom}
 use Rattle.rules.specs.Demand3.{Demand3, Companions}
 use Rattle.rules.specs.Gave.{SetupKept, accepts}
 

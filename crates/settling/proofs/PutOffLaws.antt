@@ -9,9 +9,9 @@ use native.Mathlib.Omega.{arith}
 use lib.ListN.{length, set, drop, length-append, length-drop}
 use lib.Dec.{eqb}
 use borrow.Author.Tests.{eqb-true, eq-eqb, ne-eqb}
-use Rattle.laws.specs.Choice.{if_then_else_}
+use Rattle.laws.specs.Bools.{if_then_else_}
 use Rattle.laws.specs.Range.{countTo, chosenTo, tableTo}
-use Rattle.laws.proofs.Choice.{and-both, and-left, and-left-false, and-right-false, if-true, if-false}
+use Rattle.laws.proofs.Bools.{and-both, and-left, and-left-false, and-right-false, if-true, if-false}
 use Rattle.laws.proofs.Count.{count-none, count-hit, count-miss, count-le-bound}
 use Rattle.laws.proofs.First.{length-chosen, chosen-write, chosen-skip, chosen-none}
 use Rattle.laws.proofs.Table.{getD-table, table-same, table-self, table-write}

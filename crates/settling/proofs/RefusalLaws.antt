@@ -6,8 +6,8 @@ use mathlib.Core.List.{List}
 use lib.ListN.{length}
 use lib.Dec.{eqb, ltb}
 use borrow.Author.Tests.{lt-ltb, le-ltb, eq-eqb, ne-eqb}
-use Rattle.laws.specs.Choice.{if_then_else_}
-use Rattle.laws.proofs.Choice.{and-both, and-left-false, and-right-false}
+use Rattle.laws.specs.Bools.{if_then_else_}
+use Rattle.laws.proofs.Bools.{and-both, and-left-false, and-right-false}
 use Rattle.rules.specs.declared.State.{State}
 use Rattle.rules.specs.Sizes.{maxEntries}
 use Rattle.rules.specs.State.{at}

@@ -6,7 +6,7 @@ use mathlib.Core.Bool.{Bool, not, _&&_}
 use mathlib.Core.List.{List}
 use lib.ListN.{length}
 use lib.Dec.{eqb, ltb}
-use Rattle.laws.specs.Choice.{if_then_else_}
+use Rattle.laws.specs.Bools.{if_then_else_}
 use Rattle.laws.specs.Range.{countTo, chosenTo, tableTo}
 use Rattle.rules.specs.Sizes.{maxJobs, maxEntries, maxLength}
 use Rattle.rules.specs.State.{at}

@@ -10,7 +10,7 @@ use lib.ListN.{getD}
 use borrow.Author.Tests.{eqb-true, lt-ltb, le-leb, eq-eqb, not-true}
 use Rattle.laws.specs.Range.{allTo, anyTo}
 use Rattle.laws.specs.Sequence.{holds, timesIn, everyIn, holdsEachOnce, neverFalling}
-use Rattle.laws.proofs.Choice.{true-not-false, case-bool, false-of, and-both, and-left, and-right, or-left, or-right, not-is-true, eqb-self}
+use Rattle.laws.proofs.Bools.{true-not-false, case-bool, false-of, and-both, and-left, and-right, or-left, or-right, not-is-true, eqb-self}
 use Rattle.laws.proofs.All.{all-from, any-witness}
 use Rattle.laws.proofs.Count.{count-pos-of, count-none}
 use Rattle.laws.proofs.Sequence.{every-from}

@@ -12,8 +12,8 @@ use borrow.Author.Tests.{ltb-true, leb-true, eqb-true, eq-eqb, ne-eqb, not-true}
 use Rattle.laws.specs.Range.{allTo, anyTo}
 use Rattle.laws.specs.Chain.{endsIn}
 use Rattle.laws.specs.Sequence.{holds, timesIn, everyIn, holdsEachOnce, neverFalling}
-use Rattle.laws.proofs.Choice.{true-not-false, bool-same, and-both, and-left, and-right, or-cases, not-is-true}
-use Rattle.laws.proofs.Both.{and-3, and-4}
+use Rattle.laws.proofs.Bools.{true-not-false, bool-same, and-both, and-left, and-right, or-cases, not-is-true}
+use Rattle.laws.proofs.Joined.{and-3, and-4}
 use Rattle.laws.proofs.All.{all-at, any-of}
 use Rattle.laws.proofs.Count.{count-zero-at, count-witness}
 use Rattle.laws.proofs.Sequence.{every-at}

@@ -6,10 +6,10 @@ use native.Mathlib.Numerals.{add-one}
 use native.Mathlib.Omega.{arith}
 use lib.ListN.{getD, set, drop, replicate}
 use borrow.Author.Tests.{lt-ltb, le-ltb}
-use Rattle.laws.specs.Choice.{if_then_else_}
+use Rattle.laws.specs.Bools.{if_then_else_}
 use Rattle.laws.specs.Range.{tableTo}
 use Rattle.laws.proofs.Fill.{table-drop, table-rest}
-use Rattle.laws.proofs.Columns.{getD-repeated}
+use Rattle.laws.proofs.Places.{getD-repeated}
 use Rattle.rules.specs.declared.Busy.{Busy}
 use Rattle.rules.specs.declared.Entries.{Entries}
 use Rattle.rules.specs.declared.JobList.{JobList}

@@ -9,11 +9,11 @@ use native.Mathlib.Nat.{pos-of-ne-zero}
 use lib.ListN.{length, getD, set}
 use lib.Dec.{eqb}
 use borrow.Author.Tests.{eq-eqb, ne-eqb}
-use Rattle.laws.specs.Choice.{if_then_else_}
+use Rattle.laws.specs.Bools.{if_then_else_}
 use Rattle.laws.specs.Range.{countTo, chosenTo, firstTo, tableTo}
 use Rattle.laws.specs.Sequence.{padded}
-use Rattle.laws.proofs.Choice.{and-left-false}
-use Rattle.laws.proofs.Columns.{getD-default}
+use Rattle.laws.proofs.Bools.{and-left-false}
+use Rattle.laws.proofs.Places.{getD-default}
 use Rattle.laws.proofs.Count.{count-lt-bound}
 use Rattle.laws.proofs.First.{chosen-below}
 use Rattle.laws.proofs.Once.{EachOnce, once-length}

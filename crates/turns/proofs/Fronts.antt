@@ -9,11 +9,11 @@ use lib.ListN.{length, getD, take}
 use lib.Seq.{getD-take, length-take-le}
 use Rattle.laws.specs.Range.{countTo}
 use Rattle.laws.specs.Sequence.{upTo, countIn}
-use Rattle.laws.proofs.Choice.{true-not-false}
+use Rattle.laws.proofs.Bools.{true-not-false}
 use Rattle.laws.proofs.Count.{count-same}
 use Rattle.laws.proofs.First.{first-unique, first-none}
 use Rattle.laws.proofs.Index.{first-of-at, first-of-none-at, count-in-take}
-use Rattle.laws.proofs.Found.{up-to-at}
+use Rattle.laws.proofs.FirstOf.{up-to-at}
 use Rattle.rules.specs.State.{at}
 use Rattle.rules.specs.Picking.{stepsTo}
 use Rattle.turns.specs.Turns.{frontOf, aheadOf}

@@ -8,7 +8,7 @@ use lib.Dec.{leb, ltb}
 use native.Mathlib.Omega.{arith}
 use lib.ListN.{length, getD, set, drop}
 use borrow.Author.Tests.{lt-ltb, le-ltb}
-use Rattle.laws.specs.Choice.{if_then_else_}
+use Rattle.laws.specs.Bools.{if_then_else_}
 use Rattle.laws.specs.Range.{tableTo}
 use Rattle.laws.proofs.Fill.{getD-fill, table-drop, table-keep, table-rest}
 use Rattle.rules.specs.declared.Settings.{Settings}

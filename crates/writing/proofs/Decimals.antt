@@ -7,7 +7,7 @@ use native.Mathlib.Omega.{arith}
 use lib.ListN.{length, set, length-append}
 use lib.Dec.{ltb}
 use borrow.Author.Tests.{lt-ltb, le-ltb}
-use Rattle.laws.proofs.Choice.{if-true, if-false, if-cases}
+use Rattle.laws.proofs.Bools.{if-true, if-false, if-cases}
 use Rattle.laws.specs.Wrote.{Wrote}
 use Rattle.laws.proofs.Writing.{wrote-none, wrote-one, wrote-length}
 use Rattle.rules.specs.Board.{decimalIn, decimal}

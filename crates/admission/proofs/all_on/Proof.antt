@@ -7,7 +7,7 @@ use lib.ListN.{length}
 use lib.Dec.{ltb}
 use borrow.Author.Tests.{lt-ltb, le-ltb, eq-eqb, ne-eqb}
 use borrow.Author.Count.{below-more}
-use Rattle.laws.proofs.Choice.{and-both, and-left-false, and-right-false}
+use Rattle.laws.proofs.Bools.{and-both, and-left-false, and-right-false}
 use Rattle.laws.proofs.Sequence.{every-from-getD, every-false-of}
 use Rattle.rules.specs.State.{at}
 use Rattle.admission.specs.Admission.{onTransport}

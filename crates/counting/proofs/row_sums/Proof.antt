@@ -5,7 +5,7 @@ use mathlib.Core.Path.{_≡_, _∙_}
 use lib.ListN.{length, length-set, length-replicate}
 use Rattle.rules.specs.State.{at}
 use Rattle.laws.specs.Range.{sumTo}
-use Rattle.laws.proofs.Columns.{set-more}
+use Rattle.laws.proofs.Places.{set-more}
 use Rattle.counting.proofs.row_sums.Statement.{statement}
 use Rattle.counting.proofs.row_sums.Tie as tie
 

@@ -1,7 +1,7 @@
 -- `eligibility::left_of` meets its contract. Assumes nothing.
 use mathlib.Core.Path.{refl}
 use native.Mathlib.Omega.{arith}
-use Rattle.laws.specs.Choice.{if_then_else_}
+use Rattle.laws.specs.Bools.{if_then_else_}
 use Rattle.eligibility.proofs.left_of.Statement.{statement}
 use Rattle.eligibility.proofs.left_of.Tie as tie
 

@@ -6,7 +6,7 @@ use native.Mathlib.Nat.{not-suc-le-zero}
 use native.Mathlib.Omega.{arith}
 use lib.Dec.{ltb}
 use lib.ListN.{length, getD, length-set}
-use Rattle.laws.proofs.Columns.{set-more}
+use Rattle.laws.proofs.Places.{set-more}
 use Rattle.rules.specs.State.{at, zeroSettings}
 use Rattle.eligibility.specs.Eligibility.{isOpen}
 use Rattle.eligibility.proofs.open_table.Statement.{statement}

@@ -4,7 +4,7 @@ use Prim.Native.Nat.{ℕ}
 use mathlib.Core.Bool.{Bool, _&&_}
 use native.Mathlib.Omega.{arith}
 use borrow.Author.Tests.{lt-ltb, le-ltb}
-use Rattle.laws.proofs.Choice.{and-left-false}
+use Rattle.laws.proofs.Bools.{and-left-false}
 use Rattle.eligibility.specs.Eligibility.{openPair, openTo}
 use Rattle.eligibility.proofs.open_to.Statement.{statement}
 use Rattle.eligibility.proofs.open_to.Tie as tie

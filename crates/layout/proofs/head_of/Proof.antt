@@ -1,5 +1,5 @@
 use mathlib.Core.Path.{refl}
-use Rattle.laws.specs.Choice.{if_then_else_}
+use Rattle.laws.specs.Bools.{if_then_else_}
 use Rattle.layout.specs.Layout.{headOf}
 use Rattle.layout.proofs.head_of.Statement.{statement}
 use Rattle.layout.proofs.head_of.Tie as tie

@@ -5,7 +5,7 @@ use mathlib.Core.Path.{_≡_, refl, sym, _∙_}
 use mathlib.Core.List.{_++_}
 use mathlib.Core.Logic.{⊎-elim}
 use lib.ListN.{drop, replicate}
-use Rattle.laws.proofs.Choice.{if-true, if-false}
+use Rattle.laws.proofs.Bools.{if-true, if-false}
 use Rattle.laws.specs.Range.{tableTo}
 use Rattle.laws.proofs.Fill.{fill-none, fill-more, fill-all}
 use Rattle.leaving.specs.Leaving.{adoptedAt}

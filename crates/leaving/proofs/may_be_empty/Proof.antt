@@ -4,7 +4,7 @@ use Prim.Native.Nat.{ℕ}
 use mathlib.Core.Path.{sym, ap, _∙_}
 use native.Mathlib.Omega.{arith}
 use Rattle.laws.specs.Range.{anyTo}
-use Rattle.laws.proofs.Choice.{and-left-false}
+use Rattle.laws.proofs.Bools.{and-left-false}
 use Rattle.leaving.specs.Leaving.{elsewhere}
 use Rattle.leaving.proofs.may_be_empty.Statement.{statement}
 use Rattle.leaving.proofs.may_be_empty.Tie as tie

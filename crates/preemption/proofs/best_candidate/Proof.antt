@@ -4,7 +4,7 @@ use mathlib.Core.Path.{_≡_, refl, sym, _∙_}
 use mathlib.Core.Bool.{_&&_}
 use mathlib.Core.Logic.{⊎-elim}
 use native.Mathlib.Omega.{arith}
-use Rattle.laws.proofs.Choice.{and-both, and-left-false, and-right-false}
+use Rattle.laws.proofs.Bools.{and-both, and-left-false, and-right-false}
 use Rattle.rules.specs.State.{at}
 use Rattle.eligibility.specs.Eligibility.{readyIn}
 use Rattle.preemption.proofs.Bests.{BestTo, best-is, best-none, best-hit, best-miss, best-below, best-all}

@@ -6,7 +6,7 @@ use Prim.Native.Nat.{_≤_}
 use mathlib.Core.Bool.{true, false}
 use lib.ListN.{length-replicate, getD-replicate}
 use borrow.Author.Tests.{not-true, not-false}
-use Rattle.laws.proofs.Choice.{true-not-false, false-of}
+use Rattle.laws.proofs.Bools.{true-not-false, false-of}
 use Rattle.listing.proofs.ListLaws.{listed-below}
 use Rattle.rules.specs.declared.State.{State}
 use Rattle.rules.specs.Setup.{setupInRange}

@@ -9,8 +9,8 @@ use lib.Dec.{ltb}
 use lib.ListN.{getD}
 use borrow.Author.Count.{below-more}
 use borrow.Author.Tests.{lt-ltb, le-ltb}
-use Rattle.laws.proofs.Choice.{true-not-false}
-use Rattle.laws.proofs.Columns.{getD-default}
+use Rattle.laws.proofs.Bools.{true-not-false}
+use Rattle.laws.proofs.Places.{getD-default}
 use Rattle.rules.specs.State.{zeroList, listOf}
 use Rattle.eligibility.specs.Eligibility.{readyIn}
 use Rattle.turns.specs.Turns.{frontOf, aheadOf, hasFront, frontSteps}

@@ -1,7 +1,7 @@
 -- The text is that of the answer's case. Assumes nothing.
 use Rattle.lines.specs.Texts.{pickText}
 use Rattle.lines.proofs.PutLaws.{put-case}
-use Rattle.laws.specs.Choice.{if_then_else_}
+use Rattle.laws.specs.Bools.{if_then_else_}
 use Rattle.rules.specs.Board.{decimal, decimalIn}
 use borrow.Author.Needs.{needs}
 use Rattle.lines.proofs.answer.pick.Statement.{statement}

@@ -3,7 +3,7 @@ use Prim.Native.Nat.{_-_}
 use native.Mathlib.Omega.{arith}
 use lib.ListN.{length}
 use borrow.Author.Tests.{eq-eqb, ne-eqb}
-use Rattle.laws.proofs.Choice.{not-is-true, not-is-false}
+use Rattle.laws.proofs.Bools.{not-is-true, not-is-false}
 use Rattle.lines.specs.Words.{notBlank}
 use Rattle.lines.proofs.FirstLaws.{NoneYet, none-yet, none-more, first-there, first-none}
 use borrow.Author.Needs.{needs}

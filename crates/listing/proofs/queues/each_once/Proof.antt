@@ -7,7 +7,7 @@ use mathlib.Core.Bool.{false}
 use lib.ListN.{length, getD}
 use lib.Dec.{leb}
 use borrow.Author.Tests.{not-true, not-false, lt-leb}
-use Rattle.laws.proofs.Choice.{and-left-false, and-right-false}
+use Rattle.laws.proofs.Bools.{and-left-false, and-right-false}
 use Rattle.listing.proofs.ListLaws.{Left, left-none, left-more, left-out, left-gone, once-tested}
 use Rattle.listing.proofs.queues.each_once.Statement.{statement}
 use Rattle.listing.proofs.queues.each_once.Tie as tie

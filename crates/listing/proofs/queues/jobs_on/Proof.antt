@@ -5,7 +5,7 @@ use mathlib.Core.Path.{_≡_, refl, _∙_}
 use mathlib.Core.Bool.{false, _&&_}
 use lib.ListN.{length, getD, length-set, length-replicate}
 use lib.Dec.{eqb}
-use Rattle.laws.proofs.Columns.{set-more}
+use Rattle.laws.proofs.Places.{set-more}
 use Rattle.rules.specs.State.{at}
 use Rattle.listing.proofs.queues.jobs_on.Statement.{statement}
 use Rattle.listing.proofs.queues.jobs_on.Tie as tie

@@ -9,9 +9,9 @@ use native.Mathlib.Omega.{arith}
 use lib.Dec.{eqb}
 use lib.ListN.{length, getD, take, drop}
 use borrow.Author.Tests.{ne-eqb, not-true}
-use Rattle.laws.specs.Choice.{if_then_else_}
+use Rattle.laws.specs.Bools.{if_then_else_}
 use Rattle.laws.specs.Sequence.{holds, firstOf, upTo, everyIn}
-use Rattle.laws.proofs.Choice.{true-not-false, case-bool, not-is-true, and-both, if-true, if-false, eqb-self}
+use Rattle.laws.proofs.Bools.{true-not-false, case-bool, not-is-true, and-both, if-true, if-false, eqb-self}
 use Rattle.laws.proofs.Sequence.{holds-head, holds-tail, holds-append-left, every-at}
 
 -- what firstOf finds: an element that passes, or nothing passes
