@@ -10,6 +10,10 @@ ghost use Rattle.laws.specs.Range.{allTo};
 ghost use Rattle.rules.specs.State.{at, zeroSettings};
 ghost use Rattle.rules.specs.Setup.{within, feedbackInRange, slotsInRange, windowsInRange, settingsInRange, setupInRange};
 
+const MAX_AGENTS: u64 = 100;
+
+const MAX_WINDOW: u64 = 20;
+
 // Low to high, both ends in.
 fn within(low: u64, high: u64, x: u64) -> bool
     ensures { λ r. ⌜ r ≡ within low high x ⌝ }
@@ -26,7 +30,7 @@ fn feedback_in_range(least: u64, f: Feedback) -> bool
 fn slots_in_range(g: Settings) -> bool
     ensures { λ r. ⌜ r ≡ slotsInRange g ⌝ }
 {
-    within(1, 100, g.agents)
+    within(1, MAX_AGENTS, g.agents)
         & ((g.cost == 0) | within(2, 100, g.cost))
         & within(0, 100, g.loan)
         & within(0, 100, g.discount)
@@ -38,7 +42,7 @@ fn windows_in_range(g: Settings) -> bool
 {
     let positive = g.positive;
     let negative = g.negative;
-    within(1, 20, g.limit)
+    within(1, MAX_WINDOW, g.limit)
         & within(1, g.limit, g.initial)
         & feedback_in_range(0, positive)
         & feedback_in_range(0, negative)
