@@ -3,8 +3,6 @@ use Rattle.laws.specs.Bools.{if_then_else_}
 use Rattle.layout.specs.Layout.{headOf}
 use Rattle.layout.proofs.head_of.Statement.{statement}
 use Rattle.layout.proofs.head_of.Tie as tie
-use Rattle.layout.proofs.head_of.Reads as reads
-use Rattle.layout.proofs.head_of.Lts as lts
 
 returns : tie.Need-returns
 unfolding headOf if_then_else_

@@ -3,10 +3,6 @@ use native.Mathlib.Omega.{arith}
 use Rattle.layout.proofs.LayoutLaws.{size-is, sum-is}
 use Rattle.layout.proofs.size_of.Statement.{statement}
 use Rattle.layout.proofs.size_of.Tie as tie
-use Rattle.layout.proofs.size_of.Reads as reads
-use Rattle.layout.proofs.size_of.Lts as lts
-use Rattle.layout.proofs.head_of.Reads as head-of-reads
-use Rattle.layout.proofs.tail_of.Reads as tail-of-reads
 
 shared-slice-read-head-of : tie.Need-shared-slice-read-head-of
 shared-slice-read-head-of c = search needs

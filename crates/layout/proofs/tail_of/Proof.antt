@@ -3,8 +3,6 @@ use Rattle.layout.proofs.LayoutLaws.{head-job, inside, tail-job, tail-n
 use native.Mathlib.Omega.{arith}
 use Rattle.layout.proofs.tail_of.Statement.{statement}
 use Rattle.layout.proofs.tail_of.Tie as tie
-use Rattle.layout.proofs.tail_of.Reads as reads
-use Rattle.layout.proofs.tail_of.Lts as lts
 
 shared-slice-read-kind : tie.Need-shared-slice-read-kind
 shared-slice-read-kind c = search needs

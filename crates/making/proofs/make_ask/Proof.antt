@@ -2,10 +2,6 @@ use borrow.Author.Needs.{needs}
 use Rattle.making.proofs.MadeLaws.{made}
 use Rattle.making.proofs.make_ask.Statement.{statement}
 use Rattle.making.proofs.make_ask.Tie as tie
-use Rattle.making.proofs.make_ask.Reads as reads
-use Rattle.making.proofs.make_ask.Lts as lts
-use Rattle.asking.proofs.ask.Reads as ask-reads
-use Rattle.layout.proofs.rows.put_ask.Reads as put-ask-reads
 
 ask-requires : tie.Need-ask-requires
 ask-requires c κs = search needs

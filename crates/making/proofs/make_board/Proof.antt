@@ -2,10 +2,6 @@ use borrow.Author.Needs.{needs}
 use Rattle.making.proofs.MadeLaws.{made}
 use Rattle.making.proofs.make_board.Statement.{statement}
 use Rattle.making.proofs.make_board.Tie as tie
-use Rattle.making.proofs.make_board.Reads as reads
-use Rattle.making.proofs.make_board.Lts as lts
-use Rattle.asking.proofs.board.Reads as board-reads
-use Rattle.layout.proofs.rows.put_board.Reads as put-board-reads
 
 board-requires : tie.Need-board-requires
 board-requires c κs = search needs

@@ -2,10 +2,6 @@ use borrow.Author.Needs.{needs}
 use Rattle.making.proofs.MadeLaws.{made}
 use Rattle.making.proofs.make_pick.Statement.{statement}
 use Rattle.making.proofs.make_pick.Tie as tie
-use Rattle.making.proofs.make_pick.Reads as reads
-use Rattle.making.proofs.make_pick.Lts as lts
-use Rattle.picking.proofs.pick.Reads as pick-reads
-use Rattle.layout.proofs.rows.put_pick.Reads as put-pick-reads
 
 pick-requires : tie.Need-pick-requires
 pick-requires c κs = search needs

@@ -2,10 +2,6 @@ use borrow.Author.Needs.{needs}
 use Rattle.making.proofs.MadeLaws.{made}
 use Rattle.making.proofs.make_report.Statement.{statement}
 use Rattle.making.proofs.make_report.Tie as tie
-use Rattle.making.proofs.make_report.Reads as reads
-use Rattle.making.proofs.make_report.Lts as lts
-use Rattle.reporting.proofs.report.Reads as report-reads
-use Rattle.layout.proofs.rows.put_report.Reads as put-report-reads
 
 shared-slice-read-report : tie.Need-shared-slice-read-report
 shared-slice-read-report c = search needs

@@ -4,9 +4,6 @@ use lib.ListN.{length}
 use borrow.Author.Needs.{needs}
 use Rattle.runs.proofs.append.Statement.{statement}
 use Rattle.runs.proofs.append.Tie as tie
-use Rattle.runs.proofs.append.Reads as reads
-use Rattle.runs.proofs.append.Lts as lts
-use Rattle.runs.proofs.put_word.Reads as put-word-reads
 
 abbrev Inv-loop : tie.InvT-loop
 Inv-loop words list₀ count at₀ i₀ list at i = length list ≡ length list₀

@@ -4,15 +4,6 @@ use lib.Seq.{length-take-le}
 use borrow.Author.Needs.{needs}
 use Rattle.runs.proofs.run.Statement.{statement}
 use Rattle.runs.proofs.run.Tie as tie
-use Rattle.runs.proofs.run.Reads as reads
-use Rattle.runs.proofs.run.Lts as lts
-use Rattle.lines.proofs.text.word.Reads as word-reads
-use Rattle.lines.proofs.text.at_most.Reads as at-most-reads
-use Rattle.runs.proofs.show_answers.Reads as show-answers-reads
-use Rattle.runs.proofs.show_end.Reads as show-end-reads
-use Rattle.runs.proofs.show_lists.Reads as show-lists-reads
-use Rattle.runs.proofs.show_texts.Reads as show-texts-reads
-use Rattle.running.proofs.run.Reads as run-reads
 
 slice-aggregate-answers : tie.Need-slice-aggregate-answers
 slice-aggregate-answers c = search needs

@@ -4,9 +4,6 @@ use lib.ListN.{length}
 use borrow.Author.Needs.{needs}
 use Rattle.runs.proofs.show_answers.Statement.{statement}
 use Rattle.runs.proofs.show_answers.Tie as tie
-use Rattle.runs.proofs.show_answers.Reads as reads
-use Rattle.runs.proofs.show_answers.Lts as lts
-use Rattle.runs.proofs.show_row.Reads as show-row-reads
 
 abbrev Inv-loop : tie.InvT-loop
 Inv-loop answers out₀ at₀ out at = (at ≤ length answers) × (length out ≡ length out₀)

@@ -4,10 +4,6 @@ use lib.ListN.{length}
 use borrow.Author.Needs.{needs}
 use Rattle.runs.proofs.show_lists.Statement.{statement}
 use Rattle.runs.proofs.show_lists.Tie as tie
-use Rattle.runs.proofs.show_lists.Reads as reads
-use Rattle.runs.proofs.show_lists.Lts as lts
-use Rattle.lines.proofs.answer.wide.Reads as wide-reads
-use Rattle.runs.proofs.show_place.Reads as show-place-reads
 
 abbrev Inv-loop : tie.InvT-loop
 Inv-loop lists out₀ i₀ out i = length out ≡ length out₀

@@ -4,12 +4,6 @@ use lib.ListN.{length}
 use borrow.Author.Needs.{needs}
 use Rattle.runs.proofs.show_row.Statement.{statement}
 use Rattle.runs.proofs.show_row.Tie as tie
-use Rattle.runs.proofs.show_row.Reads as reads
-use Rattle.runs.proofs.show_row.Lts as lts
-use Rattle.lines.proofs.answer.put.Reads as put-reads
-use Rattle.lines.proofs.answer.put_byte.Reads as put-byte-reads
-use Rattle.lines.proofs.answer.put_number.Reads as put-number-reads
-use Rattle.lines.proofs.answer.write.Reads as write-reads
 
 abbrev Inv-loop : tie.InvT-loop
 Inv-loop at row out₀ p₀ i₀ out p i = length out ≡ length out₀

@@ -6,11 +6,6 @@ use Rattle.rules.specs.Setup.{setupInRange}
 use Rattle.startup.proofs.SetupReplies.{setup-refused, setup-accepted}
 use Rattle.startup.proofs.set_up.Statement.{statement}
 use Rattle.startup.proofs.set_up.Tie as tie
-use Rattle.startup.proofs.set_up.Reads as reads
-use Rattle.startup.proofs.set_up.Lts as lts
-use Rattle.startup.proofs.fresh.Reads as fresh-reads
-use Rattle.ranges.proofs.in_range.Reads as in-range-reads
-use Rattle.startup.proofs.zero.Reads as zero-reads
 
 outside : (c : tie.Then1) → setupInRange (c .before .before .args .u) ≡ false
 outside c = sym (c .before .in-range .ensures) ∙ not-true _ (c .if1 .taken)

@@ -4,10 +4,6 @@ use Rattle.rules.specs.Answers.{reportSays}
 use Rattle.layout.specs.Layout.{answerRow}
 use Rattle.layout.proofs.rows.put_report.Statement.{statement}
 use Rattle.layout.proofs.rows.put_report.Tie as tie
-use Rattle.layout.proofs.rows.put_report.Reads as reads
-use Rattle.layout.proofs.rows.put_report.Lts as lts
-use Rattle.layout.proofs.rows.put_refusal.Reads as put-refusal-reads
-use Rattle.layout.proofs.rows.put_value.Reads as put-value-reads
 
 enum-known-a : tie.Need-enum-known-a
 enum-known-a c = search needs
