@@ -1,7 +1,5 @@
 -- Fractions compared by products.
 use Prim.Native.Nat.{ℕ, _*_, _≤_, _<_}
-use mathlib.Core.Bool.{Bool, true, _&&_}
-use mathlib.Core.Path.{_≡_}
 use native.Mathlib.Nat.{mul-le-mul-right, mul-right-comm, suc-mul}
 use native.Mathlib.Decide.{decLt}
 use native.Mathlib.Omega.{arith}

@@ -9,7 +9,6 @@ pub mod First
 pub mod Firsts
 pub mod Table
 pub mod Fractions
-
 -- Lists: what they hold, in which order, once each; with an element put, moved or taken out.
 
 pub mod Sequence
@@ -22,7 +21,6 @@ pub mod Once
 pub mod Falling
 pub mod Newest
 pub mod ChosenTimes
-
 -- Chains of links.
 
 pub mod Chain
@@ -31,7 +29,6 @@ pub mod ChainAmong
 pub mod ChainSkip
 pub mod Onto
 pub mod Walk
-
 -- Columns: read by places, written at a place, filled from the front.
 
 pub mod Places

@@ -3,10 +3,9 @@ use Prim.Native.Nat.{ℕ, _+_, _-_, _≤_, _<_}
 use mathlib.Core.Path.{_≡_, refl, sym, ap, subst, _∙_}
 use mathlib.Core.List.{List, [], _∷_, _++_, append-assoc, append-nil}
 use native.Mathlib.Nat.{le-refl}
-use native.Mathlib.Numerals.{add-one}
 use native.Mathlib.Omega.{arith}
-use lib.ListN.{length, getD, take, drop, set, length-append, length-drop, drop-of-length-le}
-use lib.Seq.{take-suc, take-at, drop-at, drop-drop, drop-append-add, take-all, length-take-le}
+use lib.ListN.{length, take, drop, set, length-append, length-drop, drop-of-length-le}
+use lib.Seq.{take-at, drop-at, drop-drop, drop-append-add, take-all}
 use borrow.Rule.Slice.PartMut.{putMid, midOf}
 use Rattle.laws.specs.Wrote.{Wrote}
 use Rattle.laws.proofs.Front.{length-front, front-more}
@@ -96,24 +95,3 @@ pub record Copied (text e x : List ℕ) (i : ℕ) : Type 0 where
   pub wrote : Wrote (take i text) e x i
   pub below : i ≤ length text
   pub fits : length text ≤ length e
-
-pub copy-none : (text e : List ℕ) → length text ≤ length e → Copied text e e 0
-copy-none text e l = record { wrote = wrote-none e; below = omega arith; fits = l }
-
-module _ {text e x : List ℕ} {i : ℕ} (c : Copied text e x i) where
-  front-length : length (take i text) ≡ i
-  front-length = length-take-le i text (c .below)
-
-  pub copy-length : length x ≡ length e
-  copy-length = wrote-length (c .wrote) (omega (arith, front-length, c .below, c .fits))
-
-  pub copy-one : i < length text → Copied text e (set x i (getD text i 0)) (i + 1)
-  copy-one l =
-      record {
-        wrote = rw (add-one, take-suc text i 0 l, ← add-one) (wrote-one (getD text i 0) (c .wrote) (omega (arith, front-length, c .fits)));
-        below = omega arith;
-        fits = c .fits;
-      }
-
-  pub copy-all : length text ≤ i → Wrote text e x i
-  copy-all l = wrote-as (take-all i text l) (c .wrote)

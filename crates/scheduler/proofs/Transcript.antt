@@ -6,7 +6,7 @@ use Rattle.rules.specs.declared.Setup.{Setup}
 use Rattle.rules.specs.declared.State.{State}
 use Rattle.rules.specs.declared.SetupReply.{SetupReply}
 use Rattle.rules.specs.Setup.{setupInRange, freshState}
-use Rattle.rules.specs.Calls.{Call, replyTo}
+use Rattle.rules.specs.Calls.{replyTo}
 use Rattle.rules.specs.History.{repliesFrom}
 use Rattle.rules.proofs.Replies.{start-is}
 use Rattle.rules.proofs.Demand3.{demand3, companions}
