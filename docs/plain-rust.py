@@ -14,6 +14,10 @@ HEAD = """#![allow(dead_code, unused)]
 fn wrapping_add_u32(a: u32, b: u32) -> u32 {
     a.wrapping_add(b)
 }
+fn bytes_copy(from: &[u8], to: &mut [u8]) -> usize {
+    to[..from.len()].copy_from_slice(from);
+    from.len()
+}
 """
 MAIN = """fn main() {
     let name = std::env::args().nth(1).unwrap_or_default();
@@ -69,7 +73,7 @@ def placed(crate: str, text: str) -> str:
     for other in CRATES:
         if other != crate:
             text = re.sub(rf"(?<![\w:]){other}::(?=\w)", f"crate::{other}::", text)
-    return text.replace("std::num::wrapping_add_u32", "crate::wrapping_add_u32")
+    return text.replace("std::num::wrapping_add_u32", "crate::wrapping_add_u32").replace("bytes::copy", "crate::bytes_copy")
 
 
 parts = [block("pub ", c, placed(c, inlined(Path(f"crates/{c}/src/lib.rt")))) for c in CRATES]
