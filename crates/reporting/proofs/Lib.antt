@@ -1,3 +1,2 @@
-pub mod ReportReplies
 pub mod Stayers
 pub mod ReportLaws

@@ -44,7 +44,7 @@ use Rattle.charging.proofs.Leads.{leads-present}
 use Rattle.rules.proofs.KeptPreempting.{parent-present}
 use Rattle.settling.specs.Settling.{CanPutOff, PutOff}
 use Rattle.leaving.specs.Leaving.{staysAt, adoptedAt}
-use Rattle.reporting.proofs.ReportReplies.{CanReport}
+use Rattle.rules.proofs.Accepted.{ReportAccepted}
 use Rattle.reporting.proofs.Stayers.{destination-below}
 
 fits-of : (g : Settings) (h : Health) → ((u : Sums) → h ≡ Live u → LiveSound g u) → healthFits g h ≡ true
@@ -54,12 +54,12 @@ fits-of g (Dead end) k = refl
 
 -- What the code asks.
 
-module _ (s : State) (clock e places : ℕ) (shape : Shaped s) (can : CanReport s clock e places) where
+module _ (s : State) (clock e ticket : ℕ) (list : List ℕ) (shape : Shaped s) (can : ReportAccepted s clock e ticket list) where
   facts : Sound s
   facts = sound-facts s (can .whole)
 
   its : EntrySound s e
-  its = facts .entries e (can .inside) (busy-used s e (can .busy))
+  its = facts .entries e (can .entry) (busy-used s e (can .busy))
 
   home : transportOf s (destinationOf s e) < s .setup .transports
   home = facts .setup .home (destinationOf s e) (its .destination)
@@ -71,13 +71,13 @@ module _ (s : State) (clock e places : ℕ) (shape : Shaped s) (can : CanReport 
   unfolding busyOn
   busy-transport =
       let t = transportOf s (destinationOf s e) in
-      rw (facts .busyTransport t home) (count-pos-of (busyOn s t) maxEntries e (can .inside) (and-both (can .busy) (eq-eqb t t refl)))
+      rw (facts .busyTransport t home) (count-pos-of (busyOn s t) maxEntries e (can .entry) (and-both (can .busy) (eq-eqb t t refl)))
 
   busy-destination : 1 ≤ at (s .busy .destination) (destinationOf s e)
   unfolding busyTo
   busy-destination =
       rw (facts .busyDestination (destinationOf s e) (its .destination))
-      (count-pos-of (busyTo s (destinationOf s e)) maxEntries e (can .inside) (and-both (can .busy) (eq-eqb (destinationOf s e) (destinationOf s e) refl)))
+      (count-pos-of (busyTo s (destinationOf s e)) maxEntries e (can .entry) (and-both (can .busy) (eq-eqb (destinationOf s e) (destinationOf s e) refl)))
 
   busy-few : at (s .busy .destination) (destinationOf s e) ≤ 512
   busy-few = rw (facts .busyDestination (destinationOf s e) (its .destination)) (count-le-bound (busyTo s (destinationOf s e)) maxEntries)
@@ -88,14 +88,14 @@ module _ (s : State) (clock e places : ℕ) (shape : Shaped s) (can : CanReport 
   unfolding woken
   step-asks was =
       let d = destinationOf s e in
-      let live = kept-woken s clock shape facts (can .later) .1 .destinations d (its .destination) .live in
-      (facts .setup .settings (transportOf s d) home, rw was (fits-of (settingsFor s d) (healthOf (woken s clock) d) live), busy-few, can .early)
+      let live = kept-woken s clock shape facts (can .clock .later) .1 .destinations d (its .destination) .live in
+      (facts .setup .settings (transportOf s d) home, rw was (fits-of (settingsFor s d) (healthOf (woken s clock) d) live), busy-few, can .clock .early)
 
-  pub put-off-asks : (list : List ℕ) → length list ≡ places → CanPutOff (s .entries .kind) (s .entries .job) (s .jobs .dropped) list
-  put-off-asks list l = record {
+  pub put-off-asks : CanPutOff (s .entries .kind) (s .entries .job) (s .jobs .dropped) list
+  put-off-asks = record {
     entries = shape .entries .kind;
     jobs = dropped-length (shape .jobs);
-    places = omega (arith, l, can .lent);
+    places = can .lent;
     theirs = λ i k w. present-below s shape (jobOf s i) (waiting i k w .present);
     few = λ i k w.
         let p = waiting i k w .present in
@@ -122,7 +122,7 @@ module _ (s : State) (clock e places : ℕ) (shape : Shaped s) (can : CanReport 
   arrivals-few = facts .arrivals .count
 
 -- all of that, by name
-pub record ReportAsks (s : State) (clock e places : ℕ) : Type 0 where
+pub record ReportAsks (s : State) (e : ℕ) : Type 0 where
   pub whole : Sound s
   pub destination : destinationOf s e < maxDestinations
   pub transport : transportOf s (destinationOf s e) < maxTransports
@@ -133,17 +133,17 @@ pub record ReportAsks (s : State) (clock e places : ℕ) : Type 0 where
   pub queue : getD (s .queues) (transportOf s (destinationOf s e)) zeroList .count ≤ 32
   pub arrivals : s .arrivals .count ≤ 32
 
-pub report-asks : (s : State) (clock e places : ℕ) → Shaped s → CanReport s clock e places → ReportAsks s clock e places
-report-asks s clock e places shape can = record {
-  whole = facts s clock e places shape can;
-  destination = destination-below s clock e places can;
-  transport = transport-below s clock e places shape can;
-  busyTransport = busy-transport s clock e places shape can;
-  busyDestination = busy-destination s clock e places shape can;
-  few = busy-few s clock e places shape can;
-  job = job-below s clock e places shape can;
-  queue = queue-few s clock e places shape can;
-  arrivals = arrivals-few s clock e places shape can;
+pub report-asks : (s : State) (clock e ticket : ℕ) (list : List ℕ) → Shaped s → ReportAccepted s clock e ticket list → ReportAsks s e
+report-asks s clock e ticket list shape can = record {
+  whole = facts s clock e ticket list shape can;
+  destination = destination-below s clock e ticket list can;
+  transport = transport-below s clock e ticket list shape can;
+  busyTransport = busy-transport s clock e ticket list shape can;
+  busyDestination = busy-destination s clock e ticket list shape can;
+  few = busy-few s clock e ticket list shape can;
+  job = job-below s clock e ticket list shape can;
+  queue = queue-few s clock e ticket list shape can;
+  arrivals = arrivals-few s clock e ticket list shape can;
 }
 
 -- What it builds.

@@ -22,14 +22,14 @@ use Rattle.rules.proofs.Soundness.{sound-facts}
 use Rattle.counting.specs.Counting.{countsTo, Paired}
 use Rattle.settling.specs.Settling.{putOffAt, PutOff}
 use Rattle.leaving.specs.Leaving.{usedAt, elsewhere, emptied, OthersStay}
-use Rattle.reporting.proofs.ReportReplies.{CanReport}
+use Rattle.rules.proofs.Accepted.{ReportAccepted}
 
-module _ (s : State) (clock e places : ℕ) (can : CanReport s clock e places) where
+module _ (s : State) (clock e ticket : ℕ) (lent : List ℕ) (can : ReportAccepted s clock e ticket lent) where
   facts : Sound s
   facts = sound-facts s (can .whole)
 
   pub destination-below : destinationOf s e < maxDestinations
-  destination-below = omega (arith, facts .entries e (can .inside) (busy-used s e (can .busy)) .destination, facts .setup .destinations)
+  destination-below = omega (arith, facts .entries e (can .entry) (busy-used s e (can .busy)) .destination, facts .setup .destinations)
 
   module _ {died : Bool} {n : ℕ} {list kind freed dropped list' : List ℕ}
       (put : PutOff died (destinationOf s e) (s .entries .kind) (s .entries .job) (s .entries .destination) (s .jobs .dropped) list kind dropped list' n)

@@ -5,11 +5,12 @@ use mathlib.Core.Bool.{Bool, true, false, not}
 use mathlib.Core.List.{List}
 use native.Mathlib.Nat.{suc-ne-zero}
 use Rattle.laws.specs.Bools.{if_then_else_}
+use Rattle.laws.proofs.Bools.{true-not-false}
 use Rattle.rules.specs.declared.Setup.{Setup}
 use Rattle.rules.specs.declared.State.{State}
 use Rattle.rules.specs.Setup.{setupInRange, freshState}
 use Rattle.rules.specs.Sound.{sound}
-use Rattle.rules.specs.Refusals.{setupRefusal, jobRefusal, pickRefusal, reportRefusal, askRefusal, boardRefusal}
+use Rattle.rules.specs.Refusals.{badClock, setupRefusal, jobRefusal, pickRefusal, reportRefusal, askRefusal, boardRefusal}
 use Rattle.rules.specs.Calls.{Reply, Call, lentTo, refusalOf, accepted, refused, unlessRefused, setupReply, replyTo}
 
 refusing : (k n : ℕ) (s : State) (buffer : List ℕ) (r : Reply) → k ≡ n → (k ≡ 0 → ⊥)
@@ -36,6 +37,22 @@ refusal-unsound s (Call.report now e ticket outcome list) h = first-test (sound 
 refusal-unsound s (Call.ask j) h = first-test (sound s) _ h
 refusal-unsound s (Call.board buffer) h = first-test (sound s) _ h
 
+-- the second test of the calls that have a clock
+abbrev pub badClockOf : State → Call → Bool
+badClockOf s (Call.job now t dests list) = badClock s now
+badClockOf s (Call.pick now) = badClock s now
+badClockOf s (Call.report now e ticket outcome list) = badClock s now
+badClockOf s (Call.ask j) = false
+badClockOf s (Call.board buffer) = false
+
+refusal-clock : (s : State) (call : Call) → sound s ≡ true → badClockOf s call ≡ true → refusalOf s call ≡ 3
+unfolding jobRefusal pickRefusal reportRefusal if_then_else_
+refusal-clock s (Call.job now t dests list) h b = rw (h, b) refl
+refusal-clock s (Call.pick now) h b = rw (h, b) refl
+refusal-clock s (Call.report now e ticket outcome list) h b = rw (h, b) refl
+refusal-clock s (Call.ask j) h b = true-not-false b refl
+refusal-clock s (Call.board buffer) h b = true-not-false b refl
+
 module _ (s : State) (call : Call) where
   pub reply-refused : (k : ℕ) → k ≡ refusalOf s call → (k ≡ 0 → ⊥) → record { says = refused k; state = s; buffer = lentTo call } ≡ replyTo s call
   unfolding replyTo
@@ -43,6 +60,9 @@ module _ (s : State) (call : Call) where
 
   pub reply-unsound : sound s ≡ false → record { says = refused 1; state = s; buffer = lentTo call } ≡ replyTo s call
   reply-unsound h = reply-refused 1 (sym (refusal-unsound s call h)) (suc-ne-zero 0)
+
+  pub reply-clock : sound s ≡ true → badClockOf s call ≡ true → record { says = refused 3; state = s; buffer = lentTo call } ≡ replyTo s call
+  reply-clock h b = reply-refused 3 (sym (refusal-clock s call h b)) (suc-ne-zero 2)
 
   pub reply-accepted : (x : Reply) → refusalOf s call ≡ 0 → x ≡ accepted s call → x ≡ replyTo s call
   unfolding replyTo

@@ -28,7 +28,9 @@ use Rattle.choice.specs.declared.Choice.{Choice}
 use Rattle.picking.specs.May.{MayPreempt, MayHandOut}
 use Rattle.picking.proofs.WriteLaws.{preempt-is, hand-out-is}
 use Rattle.picking.proofs.PickLaws.{Ready, ready, fits-clock, own-sound, gives-nothing, may-hand-plain, gives-plain, may-move, may-hand-moved, gives-moved}
-use Rattle.picking.proofs.PickReplies.{pick-unsound, pick-clock, pick-unrefused, pick-made, with-found}
+use Rattle.rules.specs.Calls.{Call}
+use Rattle.rules.proofs.Replies.{reply-clock, reply-accepted, reply-unsound}
+use Rattle.picking.proofs.PickReplies.{pick-unrefused, with-found}
 use Rattle.picking.proofs.pick.Statement.{statement}
 use Rattle.picking.proofs.pick.Tie as tie
 
@@ -187,7 +189,7 @@ sound-with-requires c κs = refl
 returns : tie.Need-returns
 returns c =
     let a = opened (c .before) .args in
-    let e = pick-unsound (a .s) (a .now) (sym (c .before .sound-with .ensures .0) ∙ not-true _ (c .if1 .taken)) in
+    let e = reply-unsound (a .s) (Call.pick (a .now)) (sym (c .before .sound-with .ensures .0) ∙ not-true _ (c .if1 .taken)) in
     with-found (a .s) (a .now) (PickAnswer.Refused 1) _ (shaped (a .s) (opened (c .before) .good .0)) e
 
 bad-clock-requires : tie.Need-bad-clock-requires
@@ -197,7 +199,7 @@ returns-2 : tie.Need-returns-2
 returns-2 c =
     let o = opened (c .before .before .before) in
     let bad = sym (clock-is (o .args .s) (o .args .now) _ (c .before .bad-clock .ensures)) ∙ c .if2 .taken in
-    with-found (o .args .s) (o .args .now) (PickAnswer.Refused 3) _ (shaped (o .args .s) (o .good .0)) (pick-clock (o .args .s) (o .args .now) (whole (c .before .before)) bad)
+    with-found (o .args .s) (o .args .now) (PickAnswer.Refused 3) _ (shaped (o .args .s) (o .good .0)) (reply-clock (o .args .s) (Call.pick (o .args .now)) (whole (c .before .before)) bad)
 
 cast-next : tie.Need-cast-next
 cast-next c = fits-clock (time c) (start c .early)
@@ -215,7 +217,7 @@ returns-3 c =
     let chosen = c .before .before in
     let p = passed (chosen .before .before) in
     let e = gives-nothing (state p) (time p) (start p) _ (awake (chosen .before .before)) (chosen .choose .result) (chosen .choose .ensures) (not-true _ (c .if3 .taken)) in
-    with-found (state p) (time p) PickAnswer.Nothing _ (shape p) (pick-made (state p) (time p) _ (unrefused p) e)
+    with-found (state p) (time p) PickAnswer.Nothing _ (shape p) (reply-accepted (state p) (Call.pick (time p)) _ (unrefused p) e)
 
 cast-lane : tie.Need-cast-lane
 cast-lane c = search needs
@@ -377,7 +379,7 @@ returns-4 c =
     let ticketed = counting counted in
     let read = destination-read sent .read in
     with-found (state p) (time p) (PickAnswer.Picked _ _ _ _) _ (shape p)
-    (pick-made (state p) (time p) _ (unrefused p)
+    (reply-accepted (state p) (Call.pick (time p)) _ (unrefused p)
     (given (last c) _
     (hand-out-is (last c .if4 .next) (x .transport) (x .job) (x .place) (x .entry) (read .result) (c .before .next-ticket .result) _ _ _ _ _ _
     (read .ensures) (c .before .next-ticket .ensures) (ticketed .before .put-kind .ensures) (counted .before .put-ticket .ensures)

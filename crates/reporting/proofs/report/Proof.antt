@@ -20,7 +20,9 @@ use Rattle.rules.proofs.Shape.{Shaped}
 use Rattle.columns.proofs.Shapes.{shaped, same-list}
 use Rattle.waking.proofs.WakingLaws.{clock-is, wakes, woken-is}
 use Rattle.settling.proofs.RefusalLaws.{entry-refusal-is}
-use Rattle.reporting.proofs.ReportReplies.{CanReport, report-unsound, report-clock, report-refused, report-can, report-made}
+use Rattle.rules.specs.Calls.{Call}
+use Rattle.rules.proofs.Replies.{reply-refused, reply-clock, reply-accepted, reply-unsound}
+use Rattle.rules.proofs.Accepted.{ReportAccepted, report-accepted}
 use Rattle.reporting.proofs.ReportLaws.{ReportAsks, report-asks, step-asks, put-off-asks, adopt-asks, report-is}
 use Rattle.reporting.proofs.Stayers.{others-live, others-stay}
 use Rattle.reporting.proofs.report.Statement.{statement}
@@ -85,11 +87,11 @@ from c = asked (c .before)
 accepted : (c : tie.Else3) → reportRefusal (state (from c)) (time (from c)) (entry (from c)) (ticket (from c)) (lent (from c)) ≡ 0
 accepted c = sym (refusal-is (c .before)) ∙ c .if3 .left
 
-can : (c : tie.Else3) → CanReport (state (from c)) (time (from c)) (entry (from c)) (length (lent (from c)))
-can c = report-can (state (from c)) (time (from c)) (entry (from c)) (ticket (from c)) (outcome (from c)) (lent (from c)) (accepted c)
+can : (c : tie.Else3) → ReportAccepted (state (from c)) (time (from c)) (entry (from c)) (ticket (from c)) (lent (from c))
+can c = report-accepted (state (from c)) (time (from c)) (entry (from c)) (ticket (from c)) (lent (from c)) (accepted c)
 
-asks : (c : tie.Else3) → ReportAsks (state (from c)) (time (from c)) (entry (from c)) (length (lent (from c)))
-asks c = report-asks (state (from c)) (time (from c)) (entry (from c)) (length (lent (from c))) (shape (from c)) (can c)
+asks : (c : tie.Else3) → ReportAsks (state (from c)) (entry (from c))
+asks c = report-asks (state (from c)) (time (from c)) (entry (from c)) (ticket (from c)) (lent (from c)) (shape (from c)) (can c)
 
 -- the transport's list, as the code reads it
 abbrev lane : tie.Else3 → ℕ
@@ -183,7 +185,7 @@ sound-with-requires c κs = refl
 returns : tie.Need-returns
 returns c =
     let a = opened (c .before) .args in
-    report-unsound (a .s) (a .now) (a .entry) (a .ticket) (a .outcome) (a .list .now) (sym (c .before .sound-with .ensures .0) ∙ not-true _ (c .if1 .taken))
+    reply-unsound (a .s) (Call.report (a .now) (a .entry) (a .ticket) (a .outcome) (a .list .now)) (sym (c .before .sound-with .ensures .0) ∙ not-true _ (c .if1 .taken))
 
 bad-clock-requires : tie.Need-bad-clock-requires
 bad-clock-requires c κs = tt
@@ -192,7 +194,7 @@ returns-2 : tie.Need-returns-2
 returns-2 c =
     let a = opened (c .before .before .before) .args in
     let bad = sym (clock-is (a .s) (a .now) _ (c .before .bad-clock .ensures)) ∙ c .if2 .taken in
-    report-clock (a .s) (a .now) (a .entry) (a .ticket) (a .outcome) (a .list .now) (whole (c .before .before)) bad
+    reply-clock (a .s) (Call.report (a .now) (a .entry) (a .ticket) (a .outcome) (a .list .now)) (whole (c .before .before)) bad
 
 refusal-requires : tie.Need-refusal-requires
 refusal-requires c κs = tt
@@ -200,19 +202,19 @@ refusal-requires c κs = tt
 returns-3 : tie.Need-returns-3
 returns-3 c =
     let a = asked (c .before) in
-    report-refused (state a) (time a) (entry a) (ticket a) (outcome a) (lent a) (c .before .refusal .result) (refusal-is (c .before)) (c .if3 .taken)
+    reply-refused (state a) (Call.report (time a) (entry a) (ticket a) (outcome a) (lent a)) (c .before .refusal .result) (refusal-is (c .before)) (c .if3 .taken)
 
 cast-next : tie.Need-cast-next
-cast-next c = record { fits = omega (arith, can c .early) }
+cast-next c = record { fits = omega (arith, can c .clock .early) }
 
 wake-requires : tie.Need-wake-requires
 wake-requires c κs = wakes _ (time (from (c .before .before .before .before))) (asks (c .before .before .before .before) .whole)
 
 array-read-to : tie.Need-array-read-to
-array-read-to c = can (at-columns c) .inside
+array-read-to c = can (at-columns c) .entry
 
 array-read-of : tie.Need-array-read-of
-array-read-of c = can (at-columns c) .inside
+array-read-of c = can (at-columns c) .entry
 
 cast-d : tie.Need-cast-d
 cast-d c = omega (arith, asks (at-columns c) .destination)
@@ -245,7 +247,7 @@ cast-many : tie.Need-cast-many
 cast-many c = omega (arith, asks (at-many c) .few)
 
 step-requires : tie.Need-step-requires
-step-requires c κs = step-asks _ _ _ _ (shape (from (at-many c))) (can (at-many c)) (awake (woke (c .before .before .before .before .before)))
+step-requires c κs = step-asks _ _ _ _ _ (shape (from (at-many c))) (can (at-many c)) (awake (woke (c .before .before .before .before .before)))
 
 mul-ds : tie.Need-mul-ds
 mul-ds c = omega (arith, asks (at-step c) .destination)
@@ -286,10 +288,10 @@ is-live-requires-2 c κs = tt
 put-off-requires : tie.Need-put-off-requires
 put-off-requires c κs =
     let p = at-destination (c .before .before .before .before .before .before .before .before) in
-    put-off-asks _ _ _ _ (shape (from p)) (can p) (lent (from p)) refl
+    put-off-asks _ _ _ _ _ (shape (from p)) (can p)
 
 put-kind-requires : tie.Need-put-kind-requires
-put-kind-requires c κs = can (at-freed c) .inside
+put-kind-requires c κs = can (at-freed c) .entry
 
 staying-requires : tie.Need-staying-requires
 staying-requires c κs =
@@ -299,14 +301,14 @@ staying-requires c κs =
     let first = tested (from p) in (
       asks p .destination,
       asks p .job,
-      λ dies. others-stay _ _ _ _ (can p) put free (first .before .sound-with .ensures .1 .counted (not-false _ (first .if1 .left))),
-      λ lives. others-live _ _ _ _ (can p) put free lives,
+      λ dies. others-stay _ _ _ _ _ (can p) put free (first .before .sound-with .ensures .1 .counted (not-false _ (first .if1 .left))),
+      λ lives. others-live _ _ _ _ _ (can p) put free lives,
     )
 
 adopt-requires : tie.Need-adopt-requires
 adopt-requires c κs =
     let p = at-adopting c in
-    adopt-asks _ _ _ _ (shape (from p)) (can p) (freed (stayed c .before) .put-kind .last .0) (stayed c .staying .ensures)
+    adopt-asks _ _ _ _ _ (shape (from p)) (can p) (freed (stayed c .before) .put-kind .last .0) (stayed c .staying .ensures)
 
 put-counts-requires : tie.Need-put-counts-requires
 put-counts-requires c κs = tt
@@ -358,7 +360,7 @@ returns-4 c =
     let p = at-jobs (last c) in
     let f = from p in
     let queue = ap (λ (q : JobList). listed (keep (λ j. getD (stay .staying .result) j false) (listOf q))) (own-queue p) in
-    report-made (state f) (time f) (entry f) (ticket f) (outcome f) (lent f) _ (accepted p)
+    reply-accepted (state f) (Call.report (time f) (entry f) (ticket f) (outcome f) (lent f)) _ (accepted p)
     (report-is (state f) (time f) (entry f) (outcome f) (shape f) (awake (woke (step .before .before .before .before .before .before))) (step .step .ensures)
     (off .before .before .before .before .before .before .before .before .is-live .ensures) (off .before .before .before .before .before .before .before .is-live2 .ensures)
     (off .put-off .ensures) (free .put-kind .ensures) (stay .staying .ensures) (a .adopt .ensures)

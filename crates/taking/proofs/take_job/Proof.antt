@@ -24,7 +24,8 @@ use Rattle.waking.proofs.WakingLaws.{clock-is, wakes, woken-is, woken-built}
 use Rattle.admission.specs.Admission.{deadOn}
 use Rattle.admission.proofs.Refusing.{further-is}
 use Rattle.newjob.specs.declared.Parts.{Parts}
-use Rattle.taking.proofs.JobReplies.{job-unsound, job-clock, job-refused, job-taken}
+use Rattle.rules.specs.Calls.{Call}
+use Rattle.rules.proofs.Replies.{reply-refused, reply-clock, reply-accepted, reply-unsound}
 use Rattle.taking.proofs.Replying.{Facts, facts-of, accepted-small, accepted-transport, number-is, waits-none, waits-some, number-small, waits-few}
 use Rattle.taking.proofs.Replying.{kept-small, places-enough, places-small, column-is, arrivals-room, queue-room, queue-is, taken-is, replies-none, replies-some}
 use Rattle.taking.proofs.take_job.Statement.{statement}
@@ -191,7 +192,7 @@ sound-with-requires c κs = refl
 returns : tie.Need-returns
 returns c =
     let a = opened (c .before) .args in
-    job-unsound (a .s) (a .now) (a .transport) (a .dests .now) (a .list .now) (sym (c .before .sound-with .ensures .0) ∙ not-true _ (c .if1 .taken))
+    reply-unsound (a .s) (Call.job (a .now) (a .transport) (a .dests .now) (a .list .now)) (sym (c .before .sound-with .ensures .0) ∙ not-true _ (c .if1 .taken))
 
 bad-clock-requires : tie.Need-bad-clock-requires
 bad-clock-requires c κs = tt
@@ -200,7 +201,7 @@ returns-2 : tie.Need-returns-2
 returns-2 c =
     let a = opened (c .before .before .before) .args in
     let bad = sym (clock-is (a .s) (a .now) _ (c .before .bad-clock .ensures)) ∙ c .if2 .taken in
-    job-clock (a .s) (a .now) (a .transport) (a .dests .now) (a .list .now) (whole (c .before .before)) bad
+    reply-clock (a .s) (Call.job (a .now) (a .transport) (a .dests .now) (a .list .now)) (whole (c .before .before)) bad
 
 wake-requires : tie.Need-wake-requires
 wake-requires c κs =
@@ -218,7 +219,7 @@ refusal-requires c κs =
 returns-3 : tie.Need-returns-3
 returns-3 c =
     let a = asked (c .before) in
-    job-refused (state a) (time a) (lane a) (dests a) (lent a) (c .before .refusal .result) (refusal-is (c .before)) (c .if3 .taken)
+    reply-refused (state a) (Call.job (time a) (lane a) (dests a) (lent a)) (c .before .refusal .result) (refusal-is (c .before)) (c .if3 .taken)
 
 cast-next : tie.Need-cast-next
 cast-next c = record { fits = omega (arith, accepted c .clock .early) }
@@ -241,7 +242,7 @@ returns-4 c =
     let f = facts p in
     let a = job p in
     let built = woken-built (state a) (time a) _ (listed (taking p .before) .before .wake .ensures) in
-    job-taken (state a) (time a) (lane a) (dests a) (lent a) _ (unrefused (taking p))
+    reply-accepted (state a) (Call.job (time a) (lane a) (dests a) (lent a)) _ (unrefused (taking p))
     (replies-none (woke a) (time a) (lane a) (dests a) (lent a) _ _ _ (f .putoff) (f .wrote) built (waits-none f (c .if4 .taken)))
 
 first-absent-requires : tie.Need-first-absent-requires
@@ -353,7 +354,7 @@ returns-5 c =
     (filled-as c (at (parts (its c) .kept)) (at (kept c)) _ _ (to-kept c) (filled-to c .fill-from .ensures))
     (queue-is f (some (found c) .if4 .left) _ (shape a .queues) j _ (last c .put-last .ensures))
     (c .put-last2 .ensures) in
-    job-taken (state a) (time a) (lane a) (dests a) (lent a) _ (unrefused (taking (its c)))
+    reply-accepted (state a) (Call.job (time a) (lane a) (dests a) (lent a)) _ (unrefused (taking (its c)))
     (replies-some (woke a) (time a) (lane a) (dests a) (lent a) _ _ _ (f .putoff) (f .wrote) j (number (found c))
     (t ∙ ap (λ j. taken (woke a) j (lane a) (time a) (kept c)) (number (found c))) (waits-some f (some (found c) .if4 .left)))
 
