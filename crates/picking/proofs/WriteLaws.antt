@@ -6,50 +6,13 @@ use mathlib.Core.List.{List}
 use native.Mathlib.Numerals.{add-one}
 use lib.ListN.{set}
 use Rattle.laws.specs.Sequence.{moveBefore}
-use Rattle.rules.specs.declared.Busy.{Busy}
 use Rattle.rules.specs.declared.JobList.{JobList}
-use Rattle.rules.specs.declared.Jobs.{Jobs}
-use Rattle.rules.specs.declared.Entries.{Entries}
 use Rattle.rules.specs.declared.State.{State}
 use Rattle.rules.specs.Sizes.{tickets}
 use Rattle.rules.specs.State.{at, listed, queueOf, parentOf, destinationOf}
+use Rattle.rules.specs.Changed.{withParts, withColumns, onPicked, onTurn, withKinds}
 use Rattle.rules.specs.Preemption.{charged, preempting}
 use Rattle.rules.specs.Pick.{handedOut}
-
--- the jobs with these columns, and the state with these parts
-
-abbrev pub jobsWith : Jobs → List ℕ → List ℕ → List ℕ → List Bool → List ℕ → List ℕ → Jobs
-jobsWith g picked sold parent preempted overtakers turn =
-    record {
-      present = g .present;
-      transport = g .transport;
-      n = g .n;
-      picked = picked;
-      dropped = g .dropped;
-      sold = sold;
-      parent = parent;
-      preempted = preempted;
-      arrival = g .arrival;
-      overtakers = overtakers;
-      turn = turn;
-      places = g .places;
-      order = g .order;
-    }
-
-abbrev pub stateWith : State → ℕ → ℕ → Busy → List JobList → Jobs → Entries → State
-stateWith w ticket turn busy queues jobs entries =
-    record {
-      setup = w .setup;
-      clock = w .clock;
-      ticket = ticket;
-      turn = turn;
-      destinations = w .destinations;
-      busy = busy;
-      queues = queues;
-      arrivals = w .arrivals;
-      jobs = jobs;
-      entries = entries;
-    }
 
 -- the state that the code of a preemption leaves, from the list and the columns that its callees gave
 pub preempt-is : (w : State) (t x y m : ℕ) (q : JobList) (sums sold parent : List ℕ) (preempted : List Bool) → q ≡ listed (moveBefore x y (queueOf w t))
@@ -57,7 +20,8 @@ pub preempt-is : (w : State) (t x y m : ℕ) (q : JobList) (sums sold parent : L
     → sold ≡ set (w .jobs .sold) y (at (w .jobs .sold) y + m)
     → parent ≡ set (w .jobs .parent) x (y + 1)
     → preempted ≡ set (w .jobs .preempted) x true
-    → stateWith w (w .ticket) (w .turn) (w .busy) (set (w .queues) t q) (jobsWith (w .jobs) (w .jobs .picked) sold parent preempted sums (w .jobs .turn)) (w .entries)
+    → withParts w (w .clock) (w .ticket) (w .turn) (w .destinations) (w .busy) (set (w .queues) t q) (w .arrivals)
+    (withColumns (w .jobs) (w .jobs .present) (w .jobs .picked) (w .jobs .dropped) sold parent preempted sums (w .jobs .turn)) (w .entries)
     ≡ preempting w t x y m
 unfolding preempting
 preempt-is w t x y m q sums sold parent preempted e f g h k = rw (e, f, g, h, k, add-one y) refl
@@ -71,9 +35,9 @@ pub hand-out-is : (w : State) (t j place e d ticket : ℕ) (kind issued picked t
     → turn ≡ set (w .jobs .turn) j (place + 1)
     → lanes ≡ set (w .busy .transport) t (at (w .busy .transport) t + 1)
     → counts ≡ set (w .busy .destination) d (at (w .busy .destination) d + 1)
-    → stateWith w ticket (t + 1) (record { transport = lanes; destination = counts }) (w .queues)
-    (jobsWith (w .jobs) picked (w .jobs .sold) (w .jobs .parent) (w .jobs .preempted) (w .jobs .overtakers) turn)
-    (record { kind = kind; job = w .entries .job; destination = w .entries .destination; ticket = issued })
+    → withParts w (w .clock) ticket (t + 1) (w .destinations) (record { transport = lanes; destination = counts }) (w .queues) (w .arrivals)
+    (onPicked (λ l. picked) (onTurn (λ l. turn) (w .jobs)))
+    (withKinds (w .entries) kind issued)
     ≡ handedOut w t j place e
 unfolding handedOut
 hand-out-is w t j place e d ticket kind issued picked turn lanes counts a b f g h k l m = rw (b, f, g, h, k, l, m, a) refl

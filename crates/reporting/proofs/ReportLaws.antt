@@ -24,7 +24,7 @@ use Rattle.rules.specs.Sizes.{maxTransports, maxDestinations, maxJobs, maxEntri
 use Rattle.rules.specs.State.{at, settingsFor, transportOf, healthOf, isLive, zeroDestination, zeroList, listOf, listed, queueOf, jobOf, destinationOf, isPresent, usedOf}
 use Rattle.rules.specs.Setup.{settingsInRange}
 use Rattle.rules.specs.Sound.{busyOn, busyTo}
-use Rattle.rules.specs.Changed.{onPresent, onDropped, onParent}
+use Rattle.rules.specs.Changed.{withParts, onPresent, onDropped, onParent, withKinds}
 use Rattle.rules.specs.SoundFacts.{LiveSound, EntrySound, Sound}
 use Rattle.rules.specs.Windows.{afterReport, woken}
 use Rattle.rules.specs.Reporting.{oneLessBusy, reportedHealth, dies, isPutOff, putOffEntries, putOffOf, kindAfter}
@@ -233,18 +233,11 @@ module _ (s : State) (clock e : ℕ) (outcome : Outcome) (shape : Shaped s) wher
 
     pub report-is : _≡_ {A = Reply} (record {
       says = granted (n ∷ []);
-      state = record {
-        setup = s .setup;
-        clock = clock;
-        ticket = s .ticket;
-        turn = s .turn;
-        destinations = set ds (destinationOf s e) (record { health = after });
-        busy = oneLessBusy (s .busy) (transportOf s (destinationOf s e)) (destinationOf s e);
-        queues = set (s .queues) (transportOf s (destinationOf s e)) queue;
-        arrivals = arrivals;
-        jobs = onPresent (λ l. marks') (onParent (λ l. links') (onDropped (λ l. counts') (s .jobs)));
-        entries = record { kind = freed; job = s .entries .job; destination = s .entries .destination; ticket = s .entries .ticket };
-      };
+      state =
+          withParts s clock (s .ticket) (s .turn) (set ds (destinationOf s e) (record { health = after }))
+          (oneLessBusy (s .busy) (transportOf s (destinationOf s e)) (destinationOf s e)) (set (s .queues) (transportOf s (destinationOf s e)) queue) arrivals
+          (onPresent (λ l. marks') (onParent (λ l. links') (onDropped (λ l. counts') (s .jobs))))
+          (withKinds (s .entries) freed (s .entries .ticket));
       buffer = written';
     }) (reportingReply (reporting (woken s clock) clock e (destinationOf s e) outcome) list)
     unfolding reportingReply reporting reportedAt departed settled woken

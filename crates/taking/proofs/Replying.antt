@@ -25,6 +25,7 @@ use Rattle.rules.specs.declared.State.{State}
 use Rattle.rules.specs.State.{at, zeroList, listOf, listed, queueOf, isPresent}
 use Rattle.rules.specs.Sound.{isJobOn}
 use Rattle.rules.specs.Windows.{woken}
+use Rattle.rules.specs.Changed.{withParts}
 use Rattle.rules.specs.Taking.{putOffPositions, keptOf, nOf, newNumber, freePlaces, filled, newJobs, taken}
 use Rattle.rules.specs.Refusals.{isDestinationOn}
 use Rattle.rules.specs.Calls.{Reply, granted, written, takingReply}
@@ -75,20 +76,9 @@ module _
       → destination ≡ filled (freePlaces (woken s now)) (at kept) (length kept) (s .entries .destination)
       → queue ≡ listed (queueOf s t ++ (j ∷ []))
       → arrivals ≡ listed (listOf (s .arrivals) ++ (j ∷ []))
-      → _≡_ {A = State}
-      (record {
-        setup = s .setup;
-        clock = now;
-        ticket = s .ticket;
-        turn = s .turn;
-        destinations = ds;
-        busy = s .busy;
-        queues = set (s .queues) t queue;
-        arrivals = arrivals;
-        jobs = row;
-        entries = record { kind = kind; job = job; destination = destination; ticket = s .entries .ticket };
-      })
-      (taken (woken s now) j t now kept)
+      → withParts s now (s .ticket) (s .turn) ds (s .busy) (set (s .queues) t queue) arrivals row
+      (record { kind = kind; job = job; destination = destination; ticket = s .entries .ticket })
+      ≡ taken (woken s now) j t now kept
   unfolding woken taken
   taken-is e1 e2 e3 e4 e5 e6 e7 = rw (e1, e2, e3, e4, e5, e6, e7)
 

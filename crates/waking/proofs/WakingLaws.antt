@@ -11,6 +11,7 @@ use borrow.Author.Tests.{lt-ltb, le-ltb}
 use Rattle.laws.specs.Bools.{if_then_else_}
 use Rattle.laws.specs.Range.{tableTo}
 use Rattle.laws.proofs.Fill.{getD-fill, table-drop, table-keep, table-rest}
+use Rattle.rules.specs.Changed.{atClock, onDestinations}
 use Rattle.rules.specs.declared.Settings.{Settings}
 use Rattle.rules.specs.declared.Setup.{Setup}
 use Rattle.rules.specs.declared.Sums.{Sums}
@@ -86,19 +87,7 @@ due-dead h end now e = rw e
 
 -- the state with this clock and these destinations
 abbrev pub built : State → ℕ → List Destination → State
-built s now ds =
-    record {
-      setup = s .setup;
-      clock = now;
-      ticket = s .ticket;
-      turn = s .turn;
-      destinations = ds;
-      busy = s .busy;
-      queues = s .queues;
-      arrivals = s .arrivals;
-      jobs = s .jobs;
-      entries = s .entries;
-    }
+built s now ds = atClock now (onDestinations (λ l. ds) s)
 
 module _ (s : State) (now : ℕ) where
   pub clock-is : (bad : Bool) → bad ≡ (ltb now (s .clock) || ltb lastSecond now) → bad ≡ badClock s now
