@@ -1,5 +1,6 @@
-// The tests of a job after those of soundness and of the clock, in the order of the table of refusals: document 01, "Refusal numbers". What they ask: which destinations are dead, whether a job's
-// destinations are its transport's, how many of them would wait, and which number and how many places are free.
+// The tests of a job after those of soundness and of the clock, in the order of the table of refusals: document 01, "Refusal numbers". What they ask:
+// which destinations are dead, whether a job's destinations are its transport's, how many of them would wait, and which number and how many places are
+// free.
 use rules::Destination;
 use rules::Health;
 ghost use mathlib.Core.Path.{_≡_};
@@ -116,7 +117,8 @@ pub fn refusal<'a>(
     places: usize,
 ) -> u8
     requires { ⌜ destinations ≤ 32 ⌝ }
-    ensures { λ r. ⌜ r ≡ furtherRefusal (now (home .entry)) (now (present .entry)) (now (kind .entry)) transports destinations t (now (dests .entry)) (length (keptBy (now (dead .entry)) (now (dests .entry)))) places ⌝ }
+    ensures { λ r. ⌜ r ≡ furtherRefusal (now (home .entry)) (now (present .entry)) (now (kind .entry)) transports destinations t
+        (now (dests .entry)) (length (keptBy (now (dead .entry)) (now (dests .entry)))) places ⌝ }
 {
     if transports <= t {
         return 4;

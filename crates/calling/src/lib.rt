@@ -34,7 +34,8 @@ pub fn answer_line(
 ) -> Reply
     requires { ⌜ length (now line) ≤ 2 * length (now words) ⌝ }
     ensures state { λ r. ⌜ r .state ≡ stateOn s (meaningOf (now (line .entry)) (now (list .entry)) (now (written .entry))) ⌝ }
-    ensures text { λ r. ⌜ Put (textOn s (meaningOf (now (line .entry)) (now (list .entry)) (now (written .entry)))) (now (out .entry)) 0 (now (out .exit)) (r .length) ⌝ }
+    ensures text { λ r. ⌜ Put (textOn s (meaningOf (now (line .entry)) (now (list .entry)) (now (written .entry))))
+        (now (out .entry)) 0 (now (out .exit)) (r .length) ⌝ }
 {
     let at = text::skip_blanks(line, 0);
     let n = line.len();

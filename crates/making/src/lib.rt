@@ -18,7 +18,8 @@ ghost use Rattle.making.specs.Making.{Made, Lent, Answered};
 
 fn make_job(s: State, words: &[u64], row: &mut [u64], list: &mut [u16]) -> State
     requires { ⌜ (length (row .now) ≡ rowLength) × (5 + word (words .now) 4 ≤ length (words .now)) ⌝ }
-    ensures { λ r. ⌜ Made (jobReply s (word (words .entry .now) 1) (word (words .entry .now) 2) (take (word (words .entry .now) 4) (drop 5 (words .entry .now))) (list .entry .now)) r (row .exit .now) (list .exit .now) ⌝ }
+    ensures { λ r. ⌜ Made (jobReply s (word (words .entry .now) 1) (word (words .entry .now) 2)
+        (take (word (words .entry .now) 4) (drop 5 (words .entry .now))) (list .entry .now)) r (row .exit .now) (list .exit .now) ⌝ }
 {
     let end = 5 + (words[4] as usize);
     let taken = taking::take_job(s, words[1], words[2], &words[5..end], list);
@@ -45,7 +46,8 @@ fn make_report(
     list: &mut [u16],
 ) -> State
     requires { ⌜ (length (row .now) ≡ rowLength) × (5 ≤ length (words .now)) ⌝ }
-    ensures { λ r. ⌜ Made (reportReply s (word (words .entry .now) 1) (word (words .entry .now) 2) (word (words .entry .now) 3) outcome (list .entry .now)) r (row .exit .now) (list .exit .now) ⌝ }
+    ensures { λ r. ⌜ Made (reportReply s (word (words .entry .now) 1) (word (words .entry .now) 2) (word (words .entry .now) 3) outcome (list .entry .now))
+        r (row .exit .now) (list .exit .now) ⌝ }
 {
     let reported = reporting::report(s, words[1], words[2], words[3], outcome, list);
     let a = reported.answer;

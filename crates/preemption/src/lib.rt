@@ -62,7 +62,8 @@ fn greater(age: u64, m: u64, than: u64, of: u64) -> bool
 fn challenges(arrival: &[u32; 32], waits: &[u16; 256], time: u64, best: u8, x: u8) -> bool
     requires { ⌜ (time ≤ lastSecond) × (x < 32) × (at (now arrival) x ≤ time) × ((b : ℕ) → best ≡ suc b → (b < 32) × (at (now arrival) b ≤ time)) ⌝ }
     ensures none { λ r. ⌜ (best ≡ 0 → r ≡ true) ⌝ }
-    ensures some { λ r. ⌜ ((b : ℕ) → best ≡ suc b → r ≡ ltb ((time - at (now (arrival .entry)) b + 1) * at (now (waits .entry)) x) ((time - at (now (arrival .entry)) x + 1) * at (now (waits .entry)) b)) ⌝ }
+    ensures some { λ r. ⌜ ((b : ℕ) → best ≡ suc b
+        → r ≡ ltb ((time - at (now (arrival .entry)) b + 1) * at (now (waits .entry)) x) ((time - at (now (arrival .entry)) x + 1) * at (now (waits .entry)) b)) ⌝ }
 {
     if best == 0 {
         return true;
@@ -88,7 +89,9 @@ fn best_candidate<'a>(
 ) -> u8
     requires { ⌜ (time ≤ lastSecond) × (arrivals .count ≤ 32) × (length (arrivals .jobs) ≡ 32) × (Arrived (jobs .arrival) (arrivals .jobs) (arrivals .count) time) ⌝ }
     ensures below { λ r. ⌜ r ≤ 32 ⌝ }
-    ensures best { λ r. ⌜ ((s : State) → s .jobs ≡ jobs → s .arrivals ≡ arrivals → Reads s (now (waits .entry)) (readyIn (now (pairs .entry)) (now (room .entry))) → most ≡ (waitingOf s y + owned (creditOf s t y)) / settingsOf s t .cost → r ≡ bestCandidate s time t y) ⌝ }
+    ensures best { λ r. ⌜ ((s : State) → s .jobs ≡ jobs → s .arrivals ≡ arrivals
+        → Reads s (now (waits .entry)) (readyIn (now (pairs .entry)) (now (room .entry)))
+        → most ≡ (waitingOf s y + owned (creditOf s t y)) / settingsOf s t .cost → r ≡ bestCandidate s time t y) ⌝ }
 {
     let n = arrivals.count as usize;
     let mut best: u8 = 0;
@@ -146,7 +149,9 @@ pub fn find_preemptor<'a>(
     requires list { ⌜ (time ≤ lastSecond) × (arrivals .count ≤ 32) × (length (arrivals .jobs) ≡ 32) × (Arrived (jobs .arrival) (arrivals .jobs) (arrivals .count) time) ⌝ }
     requires slots { ⌜ (y < 32) × (g .cost ≤ 100) × (g .minimum ≤ 100) × (g .loan ≤ 100) × (g .discount ≤ 100) × (g .cost * at (jobs .sold) y ≤ 256) ⌝ }
     ensures link { λ r. ⌜ r .link ≤ 32 ⌝ }
-    ensures preempts { λ r. ⌜ ((s : State) → s .jobs ≡ jobs → s .arrivals ≡ arrivals → settingsOf s t ≡ g → Reads s (now (waits .entry)) (readyIn (now (pairs .entry)) (now (room .entry))) → (r .link ≡ preemptorOf s time t y) × (r .waiting ≡ waitingAt s (r .link))) ⌝ }
+    ensures preempts { λ r. ⌜ ((s : State) → s .jobs ≡ jobs → s .arrivals ≡ arrivals → settingsOf s t ≡ g
+        → Reads s (now (waits .entry)) (readyIn (now (pairs .entry)) (now (room .entry)))
+        → (r .link ≡ preemptorOf s time t y) × (r .waiting ≡ waitingAt s (r .link))) ⌝ }
 {
     let cost = g.cost;
     if cost == 0 {

@@ -55,7 +55,8 @@ fn run_from(
     texts: &mut [u8],
 ) -> RunAnswer
     ensures { λ r. ⌜ runGave r (answers .exit .now) (lists .exit .now) (texts .exit .now)
-        ≡ ranFrom start (callsRead (calls .entry .now) (answers .entry .now) (lists .entry .now) (texts .entry .now)) (answers .entry .now) (lists .entry .now) (texts .entry .now) ⌝ }
+        ≡ ranFrom start (callsRead (calls .entry .now) (answers .entry .now) (lists .entry .now) (texts .entry .now))
+        (answers .entry .now) (lists .entry .now) (texts .entry .now) ⌝ }
 {
     let mut state = start;
     let mut made: u64 = 0;

@@ -44,7 +44,8 @@ pub fn put_off<'a>(
     d: u8,
 ) -> u16
     requires { ⌜ CanPutOff (now kind) (now job) (now dropped) (now list) ⌝ }
-    ensures { λ r. ⌜ PutOff died d (now (kind .entry)) (now (job .entry)) (now (destination .entry)) (now (dropped .entry)) (now (list .entry)) (now (kind .exit)) (now (dropped .exit)) (now (list .exit)) r ⌝ }
+    ensures { λ r. ⌜ PutOff died d (now (kind .entry)) (now (job .entry)) (now (destination .entry)) (now (dropped .entry)) (now (list .entry))
+        (now (kind .exit)) (now (dropped .exit)) (now (list .exit)) r ⌝ }
 {
     if !died {
         return 0;
