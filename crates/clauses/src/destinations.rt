@@ -20,7 +20,7 @@ fn health_right(h: Health, limit: u64, cohortlimit: u64, held: u16) -> bool
             ((1 <= u.window) & (u.window <= limit))
                 & (u.success < 23279256000)
                 & (u.failure < 23279256000)
-                & (u.cohorts <= cohortlimit * 23279256000)
+                & (u.cohorts < cohortlimit * 23279256000)
         }
         Health::Dead(_) => held == 0,
     }

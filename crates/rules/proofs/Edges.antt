@@ -1,5 +1,5 @@
 -- The rules at the edges that document 01 names, computed: where a definition is off by one, or tests the wrong way, its edge is not what the paper says.
-use Prim.Native.Nat.{ℕ}
+use Prim.Native.Nat.{ℕ, _+_, _-_}
 use mathlib.Core.Path.{_≡_, refl}
 use mathlib.Core.Bool.{true, false}
 use mathlib.Core.List.{List, [], _∷_, foldl}
@@ -7,9 +7,16 @@ use lib.ListN.{take}
 use lib.Dec.{lit≤, le→leb}
 use lib.IntN.{pos}
 use native.Mathlib.Omega.{arith}
+use borrow.Author.Tests.{le-leb}
+use Rattle.rules.specs.declared.Settings.{Settings}
+use Rattle.rules.specs.declared.Sums.{Sums}
+use Rattle.rules.specs.declared.Health.the-variants.{Live, Dead}
 use Rattle.rules.specs.declared.Jobs.{Jobs}
 use Rattle.rules.specs.declared.State.{State}
+use Rattle.rules.specs.Sizes.{U}
 use Rattle.rules.specs.State.{at, waitingOf}
+use Rattle.rules.specs.Windows.{isDeadAt, afterFailure}
+use Rattle.rules.specs.Sound.{sumsFit}
 use Rattle.rules.specs.Preemption.{hasCredit, beats, paysFor, longEnough}
 use Rattle.rules.specs.Pick.{pickedJobs, nobody, preemption}
 use Rattle.rules.specs.Calls.{took, picked}
@@ -17,11 +24,11 @@ use Rattle.rules.specs.Tally.{tallied, noTally}
 use Rattle.rules.specs.Demand3.{Ceilings}
 use Rattle.rules.specs.Examples.{perWindow, usual, given, expected, Exact}
 use Rattle.rules.specs.Tallies.{row}
-use Rattle.rules.proofs.Opened.{ranges, sequences, windows, tallies, runs, shows}
+use Rattle.rules.proofs.Opened.{ranges, sequences, setups, windows, soundness, tallies, runs, shows}
 
--- Windows: the first seven rows of the table of marked examples.
+-- Windows: the first six rows of the table of marked examples.
 
-pub window-rows : take 7 given ≡ take 7 expected
+pub window-rows : take 6 given ≡ take 6 expected
 unfolding ranges windows shows
 window-rows = refl
 
@@ -29,6 +36,23 @@ window-rows = refl
 pub exact : Exact
 unfolding ranges windows shows
 exact = refl
+
+-- "dead when cohorts are at or above the limit", and sound "below" it: a part under limit times U, there, and a part over it
+pub limit-edge :
+    let g = usual (perWindow 100) in
+    let held : ℕ → Sums = λ cohorts. record { window = 1; success = 0; failure = 0; cohorts = cohorts } in
+    (isDeadAt g (U - 1) ≡ false)
+    × (isDeadAt g U ≡ true)
+    × (isDeadAt g (U + 1) ≡ true)
+    × (sumsFit g (held (U - 1)) ≡ true)
+    × (sumsFit g (held U) ≡ false)
+unfolding ranges setups windows soundness
+limit-edge = (refl, refl, refl, refl, refl)
+
+-- "A hospital with window 1 and cohort limit 1" is dead of its first failure, whatever its sums
+pub first-failure-kills : (g : Settings) (now : ℕ) (u : Sums) → g .cohortlimit ≡ 1 → u .window ≡ 1 → afterFailure g now (Live u) ≡ Dead (now + g .suspension)
+unfolding ranges windows
+first-failure-kills g now u one small = rw (one, small, le-leb U (u .cohorts + U) (omega arith))
 
 -- "a ≥ 1"
 pub credit-edge : (hasCredit (pos 0) ≡ false) × (hasCredit (pos 1) ≡ true)

@@ -17,12 +17,12 @@ use Rattle.rules.specs.declared.Health.the-variants.{Live, Dead}
 use Rattle.rules.specs.declared.State.{State}
 use Rattle.rules.specs.Sizes.{maxDestinations}
 use Rattle.rules.specs.State.{transportOf, settingsFor, healthOf, zeroDestination, waitsOf, busyOf, usedOf, waitingOf}
-use Rattle.rules.specs.Setup.{firstState}
+use Rattle.rules.specs.Setup.{settingsInRange, firstState}
 use Rattle.rules.specs.Windows.{wokenHealth, wokenAt, woken}
 use Rattle.rules.specs.Sound.{busyOn, busyTo, isJobOn, orderOf}
 use Rattle.rules.specs.SoundFacts.{LiveSound, DestinationSound, Sound}
 use Rattle.rules.proofs.Shape.{Shaped}
-use Rattle.rules.proofs.RangeFacts.{windows-range}
+use Rattle.rules.proofs.WindowLaws.{live-first}
 
 pub woken-health : (s : State) (now d : ℕ) → d < s .setup .destinations → d < maxDestinations → healthOf (woken s now) d ≡ wokenHealth (settingsFor s d) now (healthOf s d)
 unfolding woken wokenAt
@@ -31,7 +31,7 @@ woken-health s now d l m =
     ∙ if-true (record { health = wokenHealth (settingsFor s d) now (healthOf s d) }) (getD (s .destinations) d zeroDestination) (lt-ltb d (s .setup .destinations) l))
 
 -- a dead destination may wake, a live one stays as it is
-woken-live : (g : Settings) (now : ℕ) (h : Health) → (1 ≤ g .initial) × (g .initial ≤ g .limit) → ((u : Sums) → h ≡ Live u → LiveSound g u) → (u : Sums) → wokenHealth g now h ≡ Live u → LiveSound g u
+woken-live : (g : Settings) (now : ℕ) (h : Health) → settingsInRange g ≡ true → ((u : Sums) → h ≡ Live u → LiveSound g u) → (u : Sums) → wokenHealth g now h ≡ Live u → LiveSound g u
 unfolding wokenHealth if_then_else_
 woken-live g now (Live v) r k u e = k u e
 woken-live g now (Dead end) r k u e = go (leb end now) e
@@ -40,7 +40,7 @@ woken-live g now (Dead end) r k u e = go (leb end now) e
     same v e l = rw e at l
 
     go : (b : Bool) → (if b then Live (firstState g) else Dead end) ≡ Live u → LiveSound g u
-    go true q = same (firstState g) (cc) (record { window = r; success = omega arith; failure = omega arith; cohorts = omega arith })
+    go true q = same (firstState g) (cc) (live-first g r)
     go false q = absurd (let z : _≡_ {A = ℕ} 0 1 = cc in omega arith)
 
 woken-dead : (g : Settings) (now : ℕ) (h : Health) (end : ℕ) → wokenHealth g now h ≡ Dead end → h ≡ Dead end
@@ -59,7 +59,7 @@ kept-destination s now h d l =
     let m : d < maxDestinations = omega (arith, h .setup .destinations .1) in
     let e = woken-health s now d l m in
     record {
-      live = λ u q. woken-live (settingsFor s d) now (healthOf s d) (windows-range (settingsFor s d) (h .setup .settings (transportOf s d) (h .setup .home d l)) .initial) (k .live) u (sym e ∙ q);
+      live = λ u q. woken-live (settingsFor s d) now (healthOf s d) (h .setup .settings (transportOf s d) (h .setup .home d l)) (k .live) u (sym e ∙ q);
       dead = λ end q. k .dead end (woken-dead (settingsFor s d) now (healthOf s d) end (sym e ∙ q));
     }
 

@@ -128,16 +128,16 @@ module _ (g : Settings) (u : Sums) where
   pub sums-fit-facts : sumsFit g u ≡ true → LiveSound g u
   unfolding sumsFit
   sums-fit-facts h =
-      let f = and-4 (within 1 (g .limit) (u .window)) (ltb (u .success) U) (ltb (u .failure) U) (leb (u .cohorts) (cohortBound g)) h in
+      let f = and-4 (within 1 (g .limit) (u .window)) (ltb (u .success) U) (ltb (u .failure) U) (ltb (u .cohorts) (cohortBound g)) h in
       record {
         window = within-facts (f .0);
         success = ltb-true (u .success) U (f .1);
         failure = ltb-true (u .failure) U (f .2);
-        cohorts = leb-true (u .cohorts) (cohortBound g) (f .3);
+        cohorts = ltb-true (u .cohorts) (cohortBound g) (f .3);
       }
 
   pub sums-fit-of : LiveSound g u → sumsFit g u ≡ true
   unfolding sumsFit
   sums-fit-of r =
       and-both (and-both (and-both (within-of (r .window)) (lt-ltb (u .success) U (r .success))) (lt-ltb (u .failure) U (r .failure)))
-      (le-leb (u .cohorts) (cohortBound g) (r .cohorts))
+      (lt-ltb (u .cohorts) (cohortBound g) (r .cohorts))

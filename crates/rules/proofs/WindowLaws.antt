@@ -65,7 +65,7 @@ module _ (g : Settings) (u : Sums) (range : settingsInRange g ≡ true) (live : 
 
   -- A failure.
 
-  pub live-lowered : (fall cohorts : ℕ) → fall ≤ U → cohorts ≤ cohortBound g → LiveSound g (lowered u fall cohorts)
+  pub live-lowered : (fall cohorts : ℕ) → fall ≤ U → cohorts < cohortBound g → LiveSound g (lowered u fall cohorts)
   unfolding lowered
   live-lowered fall cohorts l m =
       let r = windows-range g range in
@@ -81,12 +81,12 @@ module _ (g : Settings) (u : Sums) (range : settingsInRange g ≡ true) (live : 
   live-after-failure now cohorts v =
       let r = windows-range g range in
       let a = feedback-le-U (g .negative) (u .window) (r .negative) (live .window .0) in
-      if-cases (λ h. h ≡ Live v → LiveSound g v) (ltb (cohortBound g) cohorts)
+      if-cases (λ h. h ≡ Live v → LiveSound g v) (leb (cohortBound g) cohorts)
       (λ t e. let z : _≡_ {A = ℕ} 0 1 = cc in absurd (omega arith))
       (λ f e.
       let q : lowered u (feedback (g .negative) (u .window)) cohorts ≡ v = cc in
       subst (LiveSound g) q
-      (live-lowered (feedback (g .negative) (u .window)) cohorts a (ltb-false (cohortBound g) cohorts f)))
+      (live-lowered (feedback (g .negative) (u .window)) cohorts a (leb-false (cohortBound g) cohorts f)))
 
 -- any destination
 

@@ -1,4 +1,5 @@
--- Document 01, "Marked examples": W1 to W12 as one table with a single statement, `Worked`; and the windows for which feedback is exact.
+-- Document 01, "Marked examples": W1 to W12, without W5 (A2), as one table with a single statement, `Worked`; and the windows for which feedback
+-- is exact.
 use Prim.Native.Nat.{ℕ, zero, suc, _*_, _/_}
 use mathlib.Core.Path.{_≡_}
 use mathlib.Core.Bool.{Bool, true, _&&_}
@@ -154,19 +155,12 @@ W3 = shown (afterSuccess (usual (perWindow 100)) 1 (sums 6 7 8 9)) ∷ []
 abbrev pub outcome3 : List Shown
 outcome3 = live 6 7 8 0 ∷ []
 
--- "window 1, cohorts 0, failure, 100% flat": "window 1, cohorts U"
+-- "window 1, cohorts 0, failure, 100% flat": "dead" (A2)
 abbrev pub W4 : List Shown
 W4 = shown (afterFailure (usual (flat 100)) 0 (sums 1 0 0 0)) ∷ []
 
 abbrev pub outcome4 : List Shown
-outcome4 = live 1 0 0 U ∷ []
-
--- "W4 again": "dead"
-abbrev pub W5 : List Shown
-W5 = shown (afterFailure (usual (flat 100)) 0 (afterFailure (usual (flat 100)) 0 (sums 1 0 0 0))) ∷ []
-
-abbrev pub outcome5 : List Shown
-outcome5 = dead ∷ []
+outcome4 = dead ∷ []
 
 -- "first state, failures, 100% flat": "4, 3, 2, dead"
 abbrev pub W6 : List Shown
@@ -220,11 +214,11 @@ outcome12 = picks 0 ∷ picks 1 ∷ picks 2 ∷ picks 0 ∷ []
 -- The table: what the rules give is what the paper says.
 
 abbrev pub given : List (List Shown)
-given = W1 ∷ W2 ∷ W3 ∷ W4 ∷ W5 ∷ W6 ∷ W7 ∷ W8 ∷ W9 ∷ W10 ∷ W11 ∷ W12 ∷ []
+given = W1 ∷ W2 ∷ W3 ∷ W4 ∷ W6 ∷ W7 ∷ W8 ∷ W9 ∷ W10 ∷ W11 ∷ W12 ∷ []
 
 abbrev pub expected : List (List Shown)
 expected =
-    outcome1 ∷ outcome2 ∷ outcome3 ∷ outcome4 ∷ outcome5 ∷ outcome6 ∷ outcome7 ∷ outcome8 ∷ outcome9 ∷ outcome10 ∷ outcome11 ∷ outcome12 ∷ []
+    outcome1 ∷ outcome2 ∷ outcome3 ∷ outcome4 ∷ outcome6 ∷ outcome7 ∷ outcome8 ∷ outcome9 ∷ outcome10 ∷ outcome11 ∷ outcome12 ∷ []
 
 abbrev pub Worked : Type 0
 Worked = given ≡ expected

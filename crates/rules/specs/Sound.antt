@@ -116,13 +116,13 @@ jobSound s j =
     -- "turns name what exists", this job's
     && leb (at (s .jobs .turn) j) (at (s .jobs .places) j)
 
--- "a live destination has window 1 to limit and both parts in 0 to U-1, with cohorts at most limit times U"
+-- "a live destination has window 1 to limit and both parts in 0 to U-1, with cohorts below limit times U" (A2)
 unfoldable pub sumsFit : Settings → Sums → Bool
 sumsFit g u =
     within 1 (g .limit) (u .window)
     && ltb (u .success) U
     && ltb (u .failure) U
-    && leb (u .cohorts) (cohortBound g)
+    && ltb (u .cohorts) (cohortBound g)
 
 -- ".. ; a dead one has no waiting entry"
 unfoldable pub healthSound : State → ℕ → Health → Bool

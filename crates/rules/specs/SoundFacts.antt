@@ -68,7 +68,7 @@ pub record LiveSound (g : Settings) (u : Sums) : Type 0 where
   pub window : (1 ≤ u .window) × (u .window ≤ g .limit)
   pub success : u .success < U
   pub failure : u .failure < U
-  pub cohorts : u .cohorts ≤ cohortBound g
+  pub cohorts : u .cohorts < cohortBound g
 
 pub record DestinationSound (s : State) (d : ℕ) : Type 0 where
   pub live : (u : Sums) → healthOf s d ≡ Live u → LiveSound (settingsFor s d) u

@@ -33,9 +33,9 @@ cohortShare window = U / window
 abbrev pub cohortBound : Settings → ℕ
 cohortBound g = g .cohortlimit * U
 
--- "cohorts are greater than limit times U"
+-- "cohorts are at or above limit times U" (A2)
 unfoldable pub isDeadAt : Settings → ℕ → Bool
-isDeadAt g cohorts = ltb (cohortBound g) cohorts
+isDeadAt g cohorts = leb (cohortBound g) cohorts
 
 -- "success grows by the feedback; at U or more, U is taken off, window grows by 1, failure becomes 0; a window over the limit is set to it"
 unfoldable pub raised : Settings → Sums → ℕ → Sums
@@ -63,7 +63,7 @@ lowered u fall cohorts =
     then record { window = max (u .window - 1) 1; success = 0; failure = u .failure + U - fall; cohorts = cohorts }
     else record { window = u .window; success = u .success; failure = u .failure - fall; cohorts = cohorts }
 
--- "cohorts grow by U/window. If cohorts are greater than limit times U, the destination is dead until now + suspension .. Else .."
+-- "cohorts grow by U/window. If cohorts are at or above limit times U, the destination is dead until now + suspension .. Else .."
 unfoldable pub liveAfterFailure : Settings → ℕ → Sums → ℕ → Health
 liveAfterFailure g now u cohorts =
     if isDeadAt g cohorts

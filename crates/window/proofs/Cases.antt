@@ -51,18 +51,18 @@ pub lowered-below : (u : Sums) (fall cohorts w : ℕ) → u .failure < fall → 
 unfolding lowered if_then_else_
 lowered-below u fall cohorts w l e = rw (lt-ltb (u .failure) fall l, e)
 
-pub failure-kills : (g : Settings) (now : ℕ) (u : Sums) (cohorts : ℕ) → cohortBound g < cohorts → Dead (now + g .suspension) ≡ liveAfterFailure g now u cohorts
+pub failure-kills : (g : Settings) (now : ℕ) (u : Sums) (cohorts : ℕ) → cohortBound g ≤ cohorts → Dead (now + g .suspension) ≡ liveAfterFailure g now u cohorts
 unfolding liveAfterFailure isDeadAt if_then_else_
-failure-kills g now u cohorts l = rw (lt-ltb (cohortBound g) cohorts l)
+failure-kills g now u cohorts l = rw (le-leb (cohortBound g) cohorts l)
 
 pub failure-spares :
     (g : Settings) (now : ℕ) (u r : Sums) (cohorts b : ℕ)
-    → cohorts ≤ cohortBound g
+    → cohorts < cohortBound g
     → b ≡ feedback (g .negative) (u .window)
     → r ≡ lowered u b cohorts
     → Live r ≡ liveAfterFailure g now u cohorts
 unfolding liveAfterFailure isDeadAt if_then_else_
-failure-spares g now u r cohorts b l e h = rw (le-ltb (cohortBound g) cohorts l, ← e, h)
+failure-spares g now u r cohorts b l e h = rw (lt-leb (cohortBound g) cohorts l, ← e, h)
 
 pub failure-live : (g : Settings) (now : ℕ) (h r : Health) (u : Sums) (b : ℕ) → h ≡ Live u → b ≡ cohortShare (u .window) → r ≡ liveAfterFailure g now u (u .cohorts + b) → r ≡ afterFailure g now h
 unfolding afterFailure

@@ -145,7 +145,7 @@ fn live_after_failure(g: Settings, now: u64, u: Sums, cohorts: u64) -> Health
     requires { ⌜ (settingsInRange g ≡ true) × (sumsFit g u ≡ true) × (now ≤ 4294967295) ⌝ }
     ensures { λ r. ⌜ r ≡ liveAfterFailure g now u cohorts ⌝ }
 {
-    if g.cohortlimit * U < cohorts {
+    if g.cohortlimit * U <= cohorts {
         return Health::Dead(now + g.suspension);
     }
     let f = g.negative;

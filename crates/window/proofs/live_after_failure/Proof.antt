@@ -1,4 +1,4 @@
--- Dead past the cohort limit; else the sums fall. Assumes nothing.
+-- Dead at the cohort limit; else the sums fall. Assumes nothing.
 use native.Mathlib.Omega.{arith}
 use Rattle.rules.proofs.RangeFacts.{windows-range}
 use Rattle.window.proofs.WindowLaws.{negative-asks, lowered-asks}

@@ -15,7 +15,7 @@ use Rattle.clauses.proofs.destinations.health_right.Tie as tie
 
 -- the test as the code makes it
 live-is : (g : Settings) (u : Sums) (limit cohortlimit : ℕ) → g .limit ≡ limit → g .cohortlimit ≡ cohortlimit
-    → (leb 1 (u .window) && leb (u .window) limit) && ltb (u .success) U && ltb (u .failure) U && leb (u .cohorts) (cohortlimit * U) ≡ sumsFit g u
+    → (leb 1 (u .window) && leb (u .window) limit) && ltb (u .success) U && ltb (u .failure) U && ltb (u .cohorts) (cohortlimit * U) ≡ sumsFit g u
 unfolding sumsFit within
 live-is g u limit cohortlimit l k = sym (rw (l, k))
 
