@@ -5,7 +5,7 @@ use mathlib.Core.Bool.{true}
 use native.Mathlib.Nat.{div-le-of-le-mul}
 use native.Mathlib.Omega.{arith}
 use lib.Dec.{eqb, ltb, leb}
-use borrow.Author.Tests.{ltb-true, ltb-false, leb-true, leb-false}
+use borrow.Author.Tests.{ltb-true, leb-true, leb-false}
 use Rattle.laws.proofs.Bools.{if-cases}
 use Rattle.rules.specs.declared.Feedback.{Feedback}
 use Rattle.rules.specs.declared.Settings.{Settings}
@@ -81,7 +81,7 @@ module _ (g : Settings) (u : Sums) (range : settingsInRange g ≡ true) (live : 
   live-after-failure now cohorts v =
       let r = windows-range g range in
       let a = feedback-le-U (g .negative) (u .window) (r .negative) (live .window .0) in
-      if-cases (λ h. h ≡ Live v → LiveSound g v) (leb (cohortBound g) cohorts)
+      if-cases (λ h. h ≡ Live v → LiveSound g v) (isDeadAt g cohorts)
       (λ t e. let z : _≡_ {A = ℕ} 0 1 = cc in absurd (omega arith))
       (λ f e.
       let q : lowered u (feedback (g .negative) (u .window)) cohorts ≡ v = cc in
