@@ -46,8 +46,9 @@ pub limit-edge :
     × (isDeadAt g (U + 1) ≡ true)
     × (sumsFit g (held (U - 1)) ≡ true)
     × (sumsFit g (held U) ≡ false)
+    × (sumsFit g (held (U + 1)) ≡ false)
 unfolding ranges setups windows soundness
-limit-edge = (refl, refl, refl, refl, refl)
+limit-edge = (refl, refl, refl, refl, refl, refl)
 
 -- "A hospital with window 1 and cohort limit 1" is dead of its first failure, whatever its sums
 pub first-failure-kills : (g : Settings) (now : ℕ) (u : Sums) → g .cohortlimit ≡ 1 → u .window ≡ 1 → afterFailure g now (Live u) ≡ Dead (now + g .suspension)
