@@ -2,6 +2,7 @@
 use rules::Destination;
 use rules::Health;
 use rules::Setup;
+use rules::U;
 ghost use mathlib.Core.Path.{_≡_};
 ghost use mathlib.Core.Bool.{true, false};
 ghost use Prim.Native.Nat.{_*_, _≤_, _<_};
@@ -18,9 +19,9 @@ fn health_right(h: Health, limit: u64, cohortlimit: u64, held: u16) -> bool
     match h {
         Health::Live(u) => {
             ((1 <= u.window) & (u.window <= limit))
-                & (u.success < 23279256000)
-                & (u.failure < 23279256000)
-                & (u.cohorts < cohortlimit * 23279256000)
+                & (u.success < U)
+                & (u.failure < U)
+                & (u.cohorts < cohortlimit * U)
         }
         Health::Dead(_) => held == 0,
     }

@@ -1,4 +1,4 @@
--- W1 to W12 hold: the rules, computed, give what the paper says. The rows of windows are computed in rules/proofs/Edges.antt.
+-- The marked examples hold: the rules, computed, give what the paper says. The rows of windows are computed in rules/proofs/Edges.antt.
 use mathlib.Core.Path.{_≡_, refl, ap₂}
 use mathlib.Core.List.{[], _∷_, _++_}
 use Rattle.rules.specs.Examples.{A, B, C, firstTwo, pickedAt, W8, W11, W12, outcome8, outcome11, outcome12, Worked}

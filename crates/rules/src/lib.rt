@@ -1,5 +1,8 @@
 // The types of document 01: the set-up, the state, the answers, all by value. The rules over them are in specs/.
 
+// The parts that stand for 1 (`U` of specs/Sizes.antt).
+pub const U: u64 = 23_279_256_000;
+
 // A feedback: percent, and its form, 0 flat or 1 per window.
 pub struct Feedback {
     pub percent: u64,

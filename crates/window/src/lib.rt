@@ -3,6 +3,7 @@ use rules::Feedback;
 use rules::Health;
 use rules::Settings;
 use rules::Sums;
+use rules::U;
 ghost use mathlib.Core.Path.{_≡_};
 ghost use mathlib.Core.Bool.{true};
 ghost use Prim.Native.Nat.{_≤_, _<_, min, max};
@@ -13,9 +14,6 @@ ghost use Rattle.rules.specs.Windows.{feedback, cohortShare, raised, liveAfterS
 ghost use Rattle.rules.specs.Windows.{lowered, liveAfterFailure, afterFailure};
 ghost use Rattle.window.specs.Fits.{healthFits};
 ghost use Rattle.rules.specs.Sound.{sumsFit};
-
-// The parts that stand for 1.
-const U: u64 = 23_279_256_000;
 
 // The feedback at a window. That both are in range soundness gives for a live destination.
 pub fn feedback(f: Feedback, window: u64) -> u64
