@@ -1,8 +1,9 @@
--- Fractions compared by products.
-use Prim.Native.Nat.{ℕ, _*_, _≤_, _<_}
-use native.Mathlib.Nat.{mul-le-mul-right, mul-right-comm, suc-mul}
+-- Fractions compared by products; division rounded up.
+use Prim.Native.Nat.{ℕ, suc, _+_, _-_, _*_, _≤_, _<_}
+use native.Mathlib.Nat.{lt-suc-self, le-of-suc-le-suc, mul-le-mul-right, lt-of-mul-lt-mul-right, mul-right-comm, suc-mul, div-mul-le-self, div-lt-iff-lt-mul}
 use native.Mathlib.Decide.{decLt}
 use native.Mathlib.Omega.{arith}
+use Rattle.laws.specs.Fractions.{roundedUp}
 
 -- k/wk is at most b/wb, which is less than x/wx
 pub fraction-less : (k b x wk wb wx : ℕ) → 1 ≤ wk → k * wb ≤ b * wk → b * wx < x * wb → k * wx < x * wk
@@ -22,3 +23,18 @@ fraction-less k b x wk wb wx one h l = elim (decLt (k * wx) (x * wk)) [
         mul-right-comm x wb wk,
       ))
 ]
+
+-- a/b rounded up is the least number whose b-fold reaches a
+module _ (a b : ℕ) (some : 1 ≤ b) where
+  pub rounded-up-reaches : a ≤ roundedUp a b * b
+  rounded-up-reaches =
+      let n = roundedUp a b in
+      omega (arith, div-lt-iff-lt-mul {k = b} {x = a + b - 1} {y = suc n} some .0 (lt-suc-self n), suc-mul n b)
+
+  pub rounded-up-least : roundedUp a b * b < a + b
+  rounded-up-least = omega (arith, div-mul-le-self (a + b - 1) b)
+
+pub rounded-up-le : (a c b : ℕ) → 1 ≤ b → a ≤ c → roundedUp a b ≤ roundedUp c b
+rounded-up-le a c b some l =
+    le-of-suc-le-suc (lt-of-mul-lt-mul-right b {m = roundedUp a b} {n = suc (roundedUp c b)}
+    (omega (arith, rounded-up-least a b some, rounded-up-reaches c b some, suc-mul (roundedUp c b) b)))

@@ -1,5 +1,6 @@
 pub mod Chain
 pub mod Bools
+pub mod Fractions
 pub mod Newest
 pub mod Onto
 pub mod Order

@@ -20,7 +20,7 @@ module _ (g : Settings) {a b c d e : Bool} where
   unfolding slotsInRange
   slots-joined ea eb ec ed ee = rw (ea, eb, ec, ed, ee) refl
 
-  pub windows-joined : {f : Bool} → a ≡ within 1 20 (g .limit) → b ≡ within 1 (g .limit) (g .initial) → c ≡ feedbackInRange 0 (g .positive)
+  pub windows-joined : {f : Bool} → a ≡ within 1 20 (g .limit) → b ≡ within 1 (g .limit) (g .initial) → c ≡ feedbackInRange 1 (g .positive)
       → d ≡ feedbackInRange 0 (g .negative) → e ≡ within 1 100 (g .cohortlimit) → f ≡ within 1 86_400 (g .suspension)
       → a && b && c && d && e && f ≡ windowsInRange g
   unfolding windowsInRange

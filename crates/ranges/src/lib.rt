@@ -44,7 +44,7 @@ fn windows_in_range(g: Settings) -> bool
     let negative = g.negative;
     within(1, MAX_WINDOW, g.limit)
         & within(1, g.limit, g.initial)
-        & feedback_in_range(0, positive)
+        & feedback_in_range(1, positive)
         & feedback_in_range(0, negative)
         & within(1, 100, g.cohortlimit)
         & within(1, 86400, g.suspension)

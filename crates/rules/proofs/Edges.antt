@@ -15,6 +15,7 @@ use Rattle.rules.specs.declared.Jobs.{Jobs}
 use Rattle.rules.specs.declared.State.{State}
 use Rattle.rules.specs.Sizes.{U}
 use Rattle.rules.specs.State.{at, waitingOf}
+use Rattle.rules.specs.Setup.{settingsInRange}
 use Rattle.rules.specs.Windows.{isDeadAt, afterFailure}
 use Rattle.rules.specs.Sound.{sumsFit}
 use Rattle.rules.specs.Preemption.{hasCredit, beats, paysFor, longEnough}
@@ -22,9 +23,36 @@ use Rattle.rules.specs.Pick.{pickedJobs, nobody, preemption}
 use Rattle.rules.specs.Calls.{took, picked}
 use Rattle.rules.specs.Tally.{tallied, noTally}
 use Rattle.rules.specs.Demand3.{Ceilings}
-use Rattle.rules.specs.Examples.{perWindow, usual, given, expected, Exact}
+use Rattle.rules.specs.Examples.{flat, perWindow, usual, given, expected, Exact}
 use Rattle.rules.specs.Tallies.{row}
 use Rattle.rules.proofs.Opened.{ranges, sequences, setups, windows, soundness, tallies, runs, shows}
+
+-- The percents of feedback: "the range .. becomes 1-100" for the positive one, "Negative 0 stays legal" (A4).
+
+abbrev percents : ℕ → ℕ → Settings
+percents p n =
+    record {
+      agents = 1;
+      cost = 0;
+      loan = 0;
+      discount = 0;
+      minimum = 0;
+      limit = 1;
+      initial = 1;
+      positive = flat p;
+      negative = flat n;
+      cohortlimit = 1;
+      suspension = 1;
+    }
+
+pub percent-edge :
+    (settingsInRange (percents 0 0) ≡ false)
+    × (settingsInRange (percents 1 0) ≡ true)
+    × (settingsInRange (percents 100 100) ≡ true)
+    × (settingsInRange (percents 101 100) ≡ false)
+    × (settingsInRange (percents 100 101) ≡ false)
+unfolding ranges setups
+percent-edge = (refl, refl, refl, refl, refl)
 
 -- Windows: the first six rows of the table of marked examples.
 

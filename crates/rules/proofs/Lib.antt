@@ -89,6 +89,8 @@ pub mod Books
 pub mod NothingLost
 -- demand 3 with its companions
 pub mod Demand3
+-- A4: a window below its limit rises again
+pub mod Recovery
 -- what is computed: the names to unfold, and single rules at their edges
 pub mod Opened
 pub mod Edges

@@ -25,6 +25,7 @@ use Rattle.rules.specs.Calls.{takingDecisions, pickDecisions, decidedUnl
 use Rattle.rules.specs.Tally.{noTally, rowOf, countsOn, newRow, withJob, overtakenBy, naming, noting, overtaken, withPreemption, preemptedRows}
 use Rattle.rules.specs.Tally.{withPickAt, withPick, tallied}
 use Rattle.rules.specs.History.{stateFrom, decisionsFrom, tallyOf}
+use Rattle.rules.specs.Recovery.{isReport, isSuccess, counts, reportsIn, inARow}
 use Rattle.rules.specs.Examples.{shown, windowShown, windowsFailing, succeeded, served, exactAt}
 
 unfoldable pub ranges : Unit {0}
@@ -87,10 +88,14 @@ unfoldable pub runs : Unit {0}
 unfolding stateFrom decisionsFrom tallyOf
 runs = tt
 
+unfoldable pub recoveries : Unit {0}
+unfolding isReport isSuccess counts reportsIn inARow
+recoveries = tt
+
 unfoldable pub shows : Unit {0}
 unfolding shown windowShown windowsFailing succeeded served exactAt
 shows = tt
 
 unfoldable pub rules : Unit {0}
-unfolding ranges sequences setups windows soundness jobs eligibility preemptions picks reports refusals replies decisions tallies runs shows
+unfolding ranges sequences setups windows soundness jobs eligibility preemptions picks reports refusals replies decisions tallies runs recoveries shows
 rules = tt

@@ -70,14 +70,14 @@ slots-range g h =
 pub record WindowsRange (g : Settings) : Type 0 where
   pub limit : (1 ≤ g .limit) × (g .limit ≤ maxWindow)
   pub initial : (1 ≤ g .initial) × (g .initial ≤ g .limit)
-  pub positive : g .positive .percent ≤ 100
+  pub positive : (1 ≤ g .positive .percent) × (g .positive .percent ≤ 100)
   pub negative : g .negative .percent ≤ 100
   pub cohortlimit : (1 ≤ g .cohortlimit) × (g .cohortlimit ≤ 100)
   pub suspension : (1 ≤ g .suspension) × (g .suspension ≤ 86_400)
 
-percent-high : (least : ℕ) (f : Feedback) → feedbackInRange least f ≡ true → f .percent ≤ 100
+percent-range : (least : ℕ) (f : Feedback) → feedbackInRange least f ≡ true → (least ≤ f .percent) × (f .percent ≤ 100)
 unfolding feedbackInRange
-percent-high least f h = within-facts (and-left (within least 100 (f .percent)) (within 0 1 (f .form)) h) .1
+percent-range least f h = within-facts (and-left (within least 100 (f .percent)) (within 0 1 (f .form)) h)
 
 pub windows-range : (g : Settings) → settingsInRange g ≡ true → WindowsRange g
 unfolding settingsInRange windowsInRange
@@ -89,8 +89,8 @@ windows-range g h =
     record {
       limit = within-facts (k .0);
       initial = within-facts (k .1);
-      positive = percent-high _ (g .positive) (k .2);
-      negative = percent-high _ (g .negative) (k .3);
+      positive = percent-range _ (g .positive) (k .2);
+      negative = percent-range _ (g .negative) (k .3) .1;
       cohortlimit = within-facts (k .4);
       suspension = within-facts (k .5);
     }

@@ -29,7 +29,7 @@ first-test : (b : Bool) (k : ℕ) → b ≡ false → (if not b then 1 else k) �
 unfolding if_then_else_
 first-test b k e = rw e
 
-refusal-unsound : (s : State) (call : Call) → sound s ≡ false → refusalOf s call ≡ 1
+pub refusal-unsound : (s : State) (call : Call) → sound s ≡ false → refusalOf s call ≡ 1
 unfolding jobRefusal pickRefusal reportRefusal askRefusal boardRefusal
 refusal-unsound s (Call.job now t dests list) h = first-test (sound s) _ h
 refusal-unsound s (Call.pick now) h = first-test (sound s) _ h

@@ -1,6 +1,7 @@
 -- What a report does to jobs, lists and parents, in the terms of the state before it.
 use Prim.Native.Nat.{ℕ, _+_, _-_, _≤_, _<_}
 use mathlib.Core.Path.{_≡_, refl, sym, _∙_, ap, fun-ext}
+use mathlib.Core.Logic.{_≢_}
 use mathlib.Core.Bool.{Bool, true, false}
 use mathlib.Core.List.{map}
 use native.Mathlib.Omega.{arith}
@@ -17,7 +18,7 @@ use Rattle.rules.specs.Reporting.{reportedHealth, dies, isPutOff, putOff
 use Rattle.rules.proofs.Shape.{Shaped}
 use Rattle.rules.proofs.Settled.{settled-waiting}
 use Rattle.rules.proofs.SettledCounts.{reported-entry, reported-transport}
-use Rattle.rules.proofs.KeptSettling.{shaped-settled, sound-settled}
+use Rattle.rules.proofs.KeptSettling.{shaped-settled, settled-health, settled-health-other, sound-settled}
 use Rattle.rules.proofs.Departed.{stays-present, leaves-waiting, departed-present, departed-parent-stays}
 use Rattle.rules.proofs.Departed.{departed-queues}
 use Rattle.rules.proofs.KeptReporting.{stepped-of}
@@ -103,6 +104,16 @@ module _ (w : State) (now e : ℕ) (outcome : Outcome) (shaped : Shaped w) (soun
 
   pub reported-waiting-le : (j : ℕ) → waitingOf (reportedBy w now e outcome) j ≤ waitingOf w j
   reported-waiting-le j = omega (arith, reported-waiting j)
+
+  -- Destinations.
+
+  pub reported-health : healthOf (reportedBy w now e outcome) (destinationOf w e) ≡ healthBy w now e outcome
+  unfolding reporting reportedAt departed
+  reported-health = settled-health w e (healthBy w now e outcome) (diedBy w now e outcome) shaped sound inside busy
+
+  pub reported-health-other : (d : ℕ) → d ≢ destinationOf w e → healthOf (reportedBy w now e outcome) d ≡ healthOf w d
+  unfolding reporting reportedAt departed
+  reported-health-other = settled-health-other w e (healthBy w now e outcome) (diedBy w now e outcome) shaped sound inside busy
 
   -- Who stays.
 

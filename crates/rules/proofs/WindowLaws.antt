@@ -2,7 +2,7 @@
 use Prim.Native.Nat.{ℕ, _+_, _*_, _≤_, _<_}
 use mathlib.Core.Path.{_≡_, refl, subst}
 use mathlib.Core.Bool.{true}
-use native.Mathlib.Nat.{div-le-of-le-mul}
+use native.Mathlib.Nat.{div-le-of-le-mul, le-div-iff-mul-le}
 use native.Mathlib.Omega.{arith}
 use lib.Dec.{eqb, ltb, leb}
 use borrow.Author.Tests.{ltb-true, leb-true, leb-false}
@@ -27,6 +27,19 @@ feedback-le-U f window h l =
     if-cases (λ x. x ≤ U) (eqb (f .form) 0)
     (λ t. div-le-of-le-mul 100 (omega arith))
     (λ t. div-le-of-le-mul (100 * window) (omega arith))
+
+-- Of a set-up in range the positive one is at least 1 part (A4).
+
+pub feedback-part : (g : Settings) (window : ℕ) → settingsInRange g ≡ true → 1 ≤ window → window ≤ g .limit → 1 ≤ feedback (g .positive) window
+unfolding feedback
+feedback-part g window range l m =
+    let r = windows-range g range in
+    let a = r .positive in
+    let b = r .limit in
+    let p = g .positive .percent in
+    if-cases (λ x. 1 ≤ x) (eqb (g .positive .form) 0)
+    (λ t. le-div-iff-mul-le {k = 100} {x = 1} {y = p * U} (omega arith) .1 (omega arith))
+    (λ t. le-div-iff-mul-le {k = 100 * window} {x = 1} {y = p * U} (omega arith) .1 (omega arith))
 
 -- The first state.
 
@@ -57,7 +70,7 @@ module _ (g : Settings) (u : Sums) (range : settingsInRange g ≡ true) (live : 
   unfolding liveAfterSuccess
   live-after-success busy =
       let r = windows-range g range in
-      let a = feedback-le-U (g .positive) (u .window) (r .positive) (live .window .0) in
+      let a = feedback-le-U (g .positive) (u .window) (r .positive .1) (live .window .0) in
       let b = live .success in
       if-cases (LiveSound g) (ltb (u .window) (busy + g .initial))
       (λ t. live-raised (u .success + feedback (g .positive) (u .window)) (omega arith))

@@ -19,5 +19,6 @@ pub mod Tally
 pub mod History
 pub mod Ledger
 pub mod Demand3
+pub mod Recovery
 pub mod Examples
 pub mod Tallies

@@ -36,12 +36,13 @@ slotsInRange g =
     && within 0 100 (g .discount)
     && within 0 100 (g .minimum)
 
--- "window limit 1-20; initial window 1 to that limit; positive and negative feedback in percent 0-100 ..; cohort limit 1-100; suspension 1-86,400 s"
+-- "window limit 1-20; initial window 1 to that limit; positive and negative feedback in percent", 1-100 (A4) and 0-100; "cohort limit 1-100;
+-- suspension 1-86,400 s"
 unfoldable pub windowsInRange : Settings → Bool
 windowsInRange g =
     within 1 maxWindow (g .limit)
     && within 1 (g .limit) (g .initial)
-    && feedbackInRange 0 (g .positive)
+    && feedbackInRange 1 (g .positive)
     && feedbackInRange 0 (g .negative)
     && within 1 100 (g .cohortlimit)
     && within 1 86_400 (g .suspension)

@@ -33,13 +33,13 @@ share-high window = div-le-self U window
 
 module _ (g : Settings) (u : Sums) (r : settingsInRange g ≡ true) (k : sumsFit g u ≡ true) where
   pub positive-asks : (g .positive .percent ≤ 100) × (1 ≤ u .window) × (u .window ≤ maxWindow)
-  positive-asks = let w = windows-range g r in let f = sums-fit-facts g u k in (w .positive, f .window .0, omega arith)
+  positive-asks = let w = windows-range g r in let f = sums-fit-facts g u k in (w .positive .1, f .window .0, omega arith)
 
   pub negative-asks : (g .negative .percent ≤ 100) × (1 ≤ u .window) × (u .window ≤ maxWindow)
   negative-asks = let w = windows-range g r in let f = sums-fit-facts g u k in (w .negative, f .window .0, omega arith)
 
   pub success-sum : (b : ℕ) → b ≡ feedback (g .positive) (u .window) → u .success + b < 2 * U
-  success-sum b e = let f = sums-fit-facts g u k in omega (arith, feedback-le-U (g .positive) (u .window) (windows-range g r .positive) (f .window .0))
+  success-sum b e = let f = sums-fit-facts g u k in omega (arith, feedback-le-U (g .positive) (u .window) (windows-range g r .positive .1) (f .window .0))
 
   pub lowered-asks : (b : ℕ) → b ≡ feedback (g .negative) (u .window) → (u .failure < U) × (b ≤ U)
   lowered-asks b e = let f = sums-fit-facts g u k in (f .failure, omega (arith, feedback-le-U (g .negative) (u .window) (windows-range g r .negative) (f .window .0)))
