@@ -12,7 +12,7 @@ use Rattle.rules.specs.declared.Health.{Health}
 use Rattle.rules.specs.declared.Health.the-variants.{Live, Dead}
 use Rattle.rules.specs.declared.Jobs.{Jobs}
 use Rattle.rules.specs.declared.Destination.{Destination}
-use Rattle.rules.specs.State.{at, zeroSettings, zeroDestination}
+use Rattle.rules.specs.State.{at, zeroSettings, zeroDestination, settingsIn}
 use Rattle.rules.specs.Setup.{within}
 use Rattle.rules.specs.Sound.{implies, sumsFit}
 
@@ -49,4 +49,4 @@ healthTest g held (Dead end) = eqb held 0
 
 unfoldable pub destinationTest : Setup → List Destination → List ℕ → ℕ → Bool
 destinationTest u destinations held d =
-    healthTest (getD (u .settings) (at (u .home) d) zeroSettings) (at held d) (getD destinations d zeroDestination .health)
+    healthTest (settingsIn u d) (at held d) (getD destinations d zeroDestination .health)

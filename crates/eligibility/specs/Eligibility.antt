@@ -12,14 +12,14 @@ use Rattle.rules.specs.declared.Destination.{Destination}
 use Rattle.rules.specs.declared.Jobs.{Jobs}
 use Rattle.rules.specs.declared.Setup.{Setup}
 use Rattle.rules.specs.declared.State.{State}
-use Rattle.rules.specs.State.{at, zeroDestination, zeroSettings, isLive, windowOf, waitingOf}
+use Rattle.rules.specs.State.{at, zeroDestination, isLive, windowOf, waitingOf, settingsIn}
 use Rattle.rules.specs.Picking.{hasEligible}
 
 -- a destination with room, whose transport has a free agent
 unfoldable pub isOpen : List Destination → Busy → Setup → ℕ → Bool
 isOpen ds b u d =
     (isLive (getD ds d zeroDestination .health) && ltb (at (b .destination) d) (windowOf (getD ds d zeroDestination .health)))
-    && ltb (at (b .transport) (at (u .home) d)) (getD (u .settings) (at (u .home) d) zeroSettings .agents)
+    && ltb (at (b .transport) (at (u .home) d)) (settingsIn u d .agents)
 
 -- entry e waits for job j
 unfoldable pub waitsIn : List ℕ → List ℕ → ℕ → ℕ → Bool

@@ -2,27 +2,19 @@
 use mathlib.Core.Path.{_≡_, refl}
 use mathlib.Core.Bool.{true}
 use mathlib.Core.List.{List, [], _∷_}
-use lib.ListN.{replicate}
 use Rattle.laws.specs.Fractions.{roundedUp}
 use Rattle.rules.specs.declared.Setup.{Setup}
-use Rattle.rules.specs.Sizes.{U, maxDestinations}
-use Rattle.rules.specs.State.{zeroSettings}
+use Rattle.rules.specs.Sizes.{U}
 use Rattle.rules.specs.Setup.{firstState, setupInRange, freshState}
 use Rattle.rules.specs.Windows.{feedback}
 use Rattle.rules.specs.Calls.{Call, pick}
 use Rattle.rules.specs.Recovery.{reportsIn, inARow, needed}
-use Rattle.rules.specs.Examples.{flat, usual, jobTo0}
+use Rattle.rules.specs.Examples.{flat, usual, oneWith, jobTo0}
 use Rattle.rules.specs.Tallies.{delivered}
 use Rattle.rules.proofs.Opened.{rules}
 
 abbrev pub halves : Setup
-halves =
-    record {
-      transports = 1;
-      settings = usual (flat 50) ∷ zeroSettings ∷ zeroSettings ∷ zeroSettings ∷ [];
-      destinations = 1;
-      home = replicate maxDestinations 0;
-    }
+halves = oneWith (flat 50) 1
 
 abbrev pub twoSuccesses : List Call
 twoSuccesses = jobTo0 0 2 ∷ pick 0 ∷ delivered 0 0 ∷ pick 0 ∷ delivered 1 1 ∷ []

@@ -16,7 +16,7 @@ use Rattle.laws.proofs.Table.{getD-table, length-table}
 use Rattle.rules.specs.declared.Health.the-variants.{Live}
 use Rattle.rules.specs.declared.Setup.{Setup}
 use Rattle.rules.specs.Sizes.{maxTransports, maxDestinations, maxJobs, maxEntries}
-use Rattle.rules.specs.State.{at, zeroList, zeroDestination, zeroSettings, settingsFor, healthOf, isFree, isBusy, isPresent, destinationOf}
+use Rattle.rules.specs.State.{at, zeroList, zeroDestination, settingsFor, healthOf, isFree, isBusy, isPresent, destinationOf, settingsIn}
 use Rattle.rules.specs.Setup.{firstState, emptyState, firstDestination, freshState}
 use Rattle.rules.specs.Sound.{busyOn, busyTo, isJobOn}
 use Rattle.rules.specs.SoundFacts.{InRange, QueueSound, ArrivalsSound, LiveSound, DestinationSound, Sound}
@@ -56,11 +56,11 @@ module _ (u : Setup) where
   fresh-queue t l = getD-replicate maxTransports t zeroList zeroList l
 
   pub fresh-health : (d : ℕ) → d < u .destinations → d < maxDestinations
-      → healthOf (freshState u) d ≡ Live (firstState (getD (u .settings) (at (u .home) d) zeroSettings))
+      → healthOf (freshState u) d ≡ Live (firstState (settingsIn u d))
   unfolding freshState emptyState firstDestination
   fresh-health d l m =
       ap (λ x. x .health) (getD-table (firstDestination u) maxDestinations d zeroDestination m)
-      ∙ ap (λ x. x .health) (if-true (record { health = Live (firstState (getD (u .settings) (at (u .home) d) zeroSettings)) }) zeroDestination (lt-ltb d (u .destinations) l))
+      ∙ ap (λ x. x .health) (if-true (record { health = Live (firstState (settingsIn u d)) }) zeroDestination (lt-ltb d (u .destinations) l))
 
   -- nobody is there
 
@@ -114,14 +114,14 @@ module _ (u : Setup) where
     fresh-destination-sound : (d : ℕ) → d < u .destinations → DestinationSound (freshState u) d
     unfolding freshState emptyState
     fresh-destination-sound d l =
-        let first = firstState (getD (u .settings) (at (u .home) d) zeroSettings) in
+        let first = firstState (settingsIn u d) in
         let h = fresh-health d l (in-32 d l) in
         record {
           live =
               λ v e.
               let q : first ≡ v = cc in
               subst (LiveSound (settingsFor (freshState u) d)) q
-              (live-first (getD (u .settings) (at (u .home) d) zeroSettings) (range .settings (at (u .home) d) (range .home d l)));
+              (live-first (settingsIn u d) (range .settings (at (u .home) d) (range .home d l)));
           dead = λ end e. let z : _≡_ {A = ℕ} 0 1 = cc in absurd (omega arith);
         }
 

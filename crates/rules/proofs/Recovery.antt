@@ -19,7 +19,7 @@ use Rattle.rules.specs.declared.Health.the-variants.{Live}
 use Rattle.rules.specs.declared.State.{State}
 use Rattle.rules.specs.declared.Outcome.the-variants.{Success, Failure}
 use Rattle.rules.specs.Sizes.{U}
-use Rattle.rules.specs.State.{at, settingsOf, settingsFor, healthOf, windowOf, destinationOf, zeroSettings, zeroDestination}
+use Rattle.rules.specs.State.{at, settingsOf, settingsIn, settingsFor, healthOf, windowOf, destinationOf, zeroSettings, zeroDestination}
 use Rattle.rules.specs.Setup.{settingsInRange}
 use Rattle.rules.specs.SoundFacts.{LiveSound, Sound}
 use Rattle.rules.specs.Windows.{feedback, raised, liveAfterSuccess, afterSuccess, afterReport, wokenHealth, woken}
@@ -56,10 +56,6 @@ pub zero-unsound : (s : State) (t : ℕ) → t < s .setup .transports → settin
 zero-unsound s t inside z call =
     refusal-unsound s call (false-of λ h. omega (arith, windows-range (settingsOf s t) (sound-facts s h .setup .settings t inside) .positive .0, z))
 
--- the settings of a destination's transport, by the set-up
-abbrev settingsIn : Setup → ℕ → Settings
-settingsIn u d = getD (u .settings) (at (u .home) d) zeroSettings
-
 -- the sums after a success that counts
 abbrev counted : Settings → Sums → Sums
 counted g u = raised g u (u .success + feedback (g .positive) (u .window))
@@ -78,26 +74,26 @@ picking-leaves w now = with-leaves w _ _ _
 module _ (s : State) (d : ℕ) (u : Sums) (shaped : Shaped s) (sound : Sound s) (inside : d < s .setup .destinations) (live : healthOf s d ≡ Live u) where
   -- Waking leaves a live destination as it is, and so does each call that is no accepted report of it.
 
-  woken-live : (now : ℕ) → healthOf (woken s now) d ≡ Live u
+  woken-still : (now : ℕ) → healthOf (woken s now) d ≡ Live u
   unfolding wokenHealth
-  woken-live now =
+  woken-still now =
       woken-health s now d inside (omega (arith, sound .setup .destinations .1)) ∙ ap (wokenHealth (settingsFor s d) now) live
 
   accepted-still : (call : Call) → refusalOf s call ≡ 0 → isReport anyOutcome s d call ≡ false → healthOf (accepted s call .state) d ≡ Live u
   unfolding takingReply afterPick pickingReply reportingReply taken isReport
   accepted-still (job now t dests list) r n =
-      if-cases (λ (x : Reply). healthOf (x .state) d ≡ Live u) (eqb (nOf (woken s now) dests) 0) (λ z. woken-live now) (λ z. woken-live now)
+      if-cases (λ (x : Reply). healthOf (x .state) d ≡ Live u) (eqb (nOf (woken s now) dests) 0) (λ z. woken-still now) (λ z. woken-still now)
   accepted-still (pick now) r n =
       if-cases (λ (x : Reply). healthOf (x .state) d ≡ Live u) (finds (woken s now))
-      (λ z. ap (λ ds. getD ds d zeroDestination .health) (picking-leaves (woken s now) now .1) ∙ woken-live now)
-      (λ z. woken-live now)
+      (λ z. ap (λ ds. getD ds d zeroDestination .health) (picking-leaves (woken s now) now .1) ∙ woken-still now)
+      (λ z. woken-still now)
   accepted-still (report now e ticket outcome list) r n =
       let p = report-accepted s now e ticket list r in
       let kept = kept-woken s now shaped sound (p .clock .later) in
       unfold woken in
       reported-health-other (woken s now) now e outcome (kept .0) (kept .1) (p .entry) (p .busy) d
       (λ q. true-not-false (eq-eqb (destinationOf s e) d (sym q)) (rw r at n))
-      ∙ woken-live now
+      ∙ woken-still now
   accepted-still (ask j) r n = live
   accepted-still (board buffer) r n = live
 
@@ -125,7 +121,7 @@ module _ (s : State) (d : ℕ) (u : Sums) (shaped : Shaped s) (sound : Sound s) 
       ∙ reported-health w now e Success (kept .0) (kept .1) (p .entry) (p .busy)
       ∙ ap (λ x. reportedHealth w now x Success) q
       ∙ unfold afterReport afterSuccess in
-      ap (afterSuccess (settingsFor s d) (at (s .busy .destination) d)) (woken-live now)
+      ap (afterSuccess (settingsFor s d) (at (s .busy .destination) d)) (woken-still now)
       ∙ ap Live (unfold liveAfterSuccess in if-true _ _ l)
 
   counted-success : (call : Call) → counts s d call ≡ true → healthOf (replyTo s call .state) d ≡ Live (counted (settingsFor s d) u)
@@ -265,9 +261,7 @@ module _ (u : Setup) (d : ℕ) (inside : d < u .destinations) where
 pub recovery-holds : RecoveryHolds
 recovery-holds u past range d inside v live low =
     let r = reached u range past in
-    let e = ap (λ x. settingsIn x d) (r .sim .setup) in
     let k = in-range-facts u range in
-    subst (λ g. Recovers (stateAfter u past) d g v) (sym e)
-    (recovers u d inside (stateAfter u past) tt (record { shaped = r .shaped; sound = r .sound; said = r .sim .setup })
-    (k .settings (at (u .home) d) (k .home d inside)) v live (subst (λ g. v .window < g .limit) e low)
-    (subst (λ g. LiveSound g v) e (r .sound .destinations d (rw (r .sim .setup) inside) .live v live)))
+    recovers u d inside (stateAfter u past) tt (record { shaped = r .shaped; sound = r .sound; said = r .sim .setup })
+    (k .settings (at (u .home) d) (k .home d inside)) v live low
+    (subst (λ x. LiveSound (settingsIn x d) v) (r .sim .setup) (r .sound .destinations d (rw (r .sim .setup) inside) .live v live))

@@ -1,4 +1,4 @@
--- What a report does to jobs, lists and parents, in the terms of the state before it.
+-- What a report does to destinations, jobs, lists and parents, in the terms of the state before it.
 use Prim.Native.Nat.{ℕ, _+_, _-_, _≤_, _<_}
 use mathlib.Core.Path.{_≡_, refl, sym, _∙_, ap, fun-ext}
 use mathlib.Core.Logic.{_≢_}

@@ -79,15 +79,18 @@ windowsFailing g (suc n) h = windowShown (afterFailure g 0 h) ∷ windowsFailing
 
 -- Runs.
 
--- one transport, with destinations 0 to d - 1
-abbrev pub oneTransport : ℕ → Setup
-oneTransport d =
+-- one transport with this feedback, and destinations 0 to d - 1
+abbrev pub oneWith : Feedback → ℕ → Setup
+oneWith f d =
     record {
       transports = 1;
-      settings = usual (perWindow 100) ∷ zeroSettings ∷ zeroSettings ∷ zeroSettings ∷ [];
+      settings = usual f ∷ zeroSettings ∷ zeroSettings ∷ zeroSettings ∷ [];
       destinations = d;
       home = replicate maxDestinations 0;
     }
+
+abbrev pub oneTransport : ℕ → Setup
+oneTransport d = oneWith (perWindow 100) d
 
 abbrev pub buffer : List ℕ
 buffer = replicate maxEntries 0

@@ -15,7 +15,7 @@ use Rattle.rules.specs.declared.State.{State}
 use Rattle.rules.specs.declared.Outcome.{Outcome}
 use Rattle.rules.specs.declared.Outcome.the-variants.{Success, Failure}
 use Rattle.rules.specs.Sizes.{U}
-use Rattle.rules.specs.State.{at, settingsFor, healthOf, windowOf, destinationOf}
+use Rattle.rules.specs.State.{at, settingsIn, settingsFor, healthOf, windowOf, destinationOf}
 use Rattle.rules.specs.Setup.{setupInRange}
 use Rattle.rules.specs.Windows.{feedback}
 use Rattle.rules.specs.Sound.{implies}
@@ -47,7 +47,7 @@ unfoldable pub reportsIn : State → ℕ → List Call → ℕ
 reportsIn s d [] = 0
 reportsIn s d (call ∷ calls) = one (isReport anyOutcome s d call) + reportsIn (replyTo s call .state) d calls
 
--- among these calls, destination d has successes that count, and no other report between them
+-- each of these calls that reports destination d is a success that counts
 unfoldable pub inARow : State → ℕ → List Call → Bool
 inARow s d [] = true
 inARow s d (call ∷ calls) = implies (isReport anyOutcome s d call) (counts s d call) && inARow (replyTo s call .state) d calls
@@ -76,5 +76,5 @@ RecoveryHolds =
     → d < u .destinations
     → (v : Sums)
     → healthOf (stateAfter u past) d ≡ Live v
-    → v .window < settingsFor (stateAfter u past) d .limit
-    → Recovers (stateAfter u past) d (settingsFor (stateAfter u past) d) v
+    → v .window < settingsIn u d .limit
+    → Recovers (stateAfter u past) d (settingsIn u d) v

@@ -17,7 +17,7 @@ use Rattle.rules.specs.declared.Jobs.{Jobs}
 use Rattle.rules.specs.declared.Entries.{Entries}
 use Rattle.rules.specs.declared.State.{State}
 use Rattle.rules.specs.Sizes.{maxTransports, maxDestinations, maxJobs, maxEntries, maxAgents, maxWindow}
-use Rattle.rules.specs.State.{at, zeroSettings, zeroDestination, zeroList}
+use Rattle.rules.specs.State.{at, zeroSettings, zeroDestination, zeroList, settingsIn}
 
 -- low to high, both ends in
 unfoldable pub within : ℕ → ℕ → ℕ → Bool
@@ -127,7 +127,7 @@ zeroState = emptyState zeroSetup (replicate maxDestinations zeroDestination)
 unfoldable pub firstDestination : Setup → ℕ → Destination
 firstDestination u d =
     if ltb d (u .destinations)
-    then record { health = Live (firstState (getD (u .settings) (at (u .home) d) zeroSettings)) }
+    then record { health = Live (firstState (settingsIn u d)) }
     else zeroDestination
 
 -- the state of an accepted set-up

@@ -8,6 +8,7 @@ use Rattle.laws.specs.Range.{countTo}
 use Rattle.laws.specs.Sequence.{padded}
 use Rattle.rules.specs.declared.Feedback.{Feedback}
 use Rattle.rules.specs.declared.Settings.{Settings}
+use Rattle.rules.specs.declared.Setup.{Setup}
 use Rattle.rules.specs.declared.Sums.{Sums}
 use Rattle.rules.specs.declared.Health.{Health}
 use Rattle.rules.specs.declared.Health.the-variants.{Live, Dead}
@@ -59,9 +60,12 @@ settingsOf s t = getD (s .setup .settings) t zeroSettings
 abbrev pub transportOf : State → ℕ → ℕ
 transportOf s d = at (s .setup .home) d
 
--- the settings of a destination's transport
+-- the settings of a destination's transport, by the set-up and by a state
+abbrev pub settingsIn : Setup → ℕ → Settings
+settingsIn u d = getD (u .settings) (at (u .home) d) zeroSettings
+
 abbrev pub settingsFor : State → ℕ → Settings
-settingsFor s d = settingsOf s (transportOf s d)
+settingsFor s d = settingsIn (s .setup) d
 
 abbrev pub healthOf : State → ℕ → Health
 healthOf s d = getD (s .destinations) d zeroDestination .health

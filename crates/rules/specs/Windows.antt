@@ -17,7 +17,7 @@ use Rattle.rules.specs.declared.State.{State}
 use Rattle.rules.specs.declared.Outcome.{Outcome}
 use Rattle.rules.specs.declared.Outcome.the-variants.{Success, Failure}
 use Rattle.rules.specs.Sizes.{U, maxDestinations}
-use Rattle.rules.specs.State.{at, zeroSettings, zeroDestination}
+use Rattle.rules.specs.State.{at, zeroDestination, settingsIn}
 use Rattle.rules.specs.Changed.{atClock, onDestinations}
 use Rattle.rules.specs.Setup.{firstState}
 
@@ -89,7 +89,7 @@ wokenHealth g now (Dead end) = if leb end now then Live (firstState g) else Dead
 unfoldable pub wokenAt : List Destination → Setup → ℕ → ℕ → Destination
 wokenAt ds u now d =
     if ltb d (u .destinations)
-    then record { health = wokenHealth (getD (u .settings) (at (u .home) d) zeroSettings) now (getD ds d zeroDestination .health) }
+    then record { health = wokenHealth (settingsIn u d) now (getD ds d zeroDestination .health) }
     else getD ds d zeroDestination
 
 -- "Once accepted, each first wakes destinations": the state with this clock as the last accepted one, and all of them woken

@@ -18,7 +18,7 @@ use Rattle.rules.specs.declared.Setup.{Setup}
 use Rattle.rules.specs.declared.Sums.{Sums}
 use Rattle.rules.specs.declared.Health.the-variants.{Live}
 use Rattle.rules.specs.declared.Destination.{Destination}
-use Rattle.rules.specs.State.{at, zeroSettings, zeroDestination, zeroList}
+use Rattle.rules.specs.State.{at, zeroDestination, zeroList, settingsIn}
 use Rattle.rules.specs.Setup.{firstState, noBusy, noJobs, noEntries, emptyState, firstDestination}
 
 -- nothing in any column, and nothing has happened
@@ -49,7 +49,7 @@ module _ (u : Setup) where
   first-none z e = rw e
 
   pub first-written : (d : ℕ) (ds : List Destination) (r : Sums) → ds ≡ firstTo d → d < u .destinations → d < 32
-      → r ≡ firstState (getD (u .settings) (at (u .home) d) zeroSettings) → set ds d (record { health = Live r }) ≡ firstTo (d + 1)
+      → r ≡ firstState (settingsIn u d) → set ds d (record { health = Live r }) ≡ firstTo (d + 1)
   unfolding firstDestination if_then_else_
   first-written d ds r n l h k =
       let w : firstDestination u d ≡ record { health = Live r } = rw (lt-ltb d (u .destinations) l, k) in

@@ -20,7 +20,7 @@ use Rattle.rules.specs.declared.Health.the-variants.{Live, Dead}
 use Rattle.rules.specs.declared.Destination.{Destination}
 use Rattle.rules.specs.declared.State.{State}
 use Rattle.rules.specs.Sizes.{lastSecond}
-use Rattle.rules.specs.State.{at, zeroSettings, zeroDestination}
+use Rattle.rules.specs.State.{at, zeroDestination, settingsIn}
 use Rattle.rules.specs.Setup.{firstState}
 use Rattle.rules.specs.Windows.{wokenHealth, wokenAt, woken}
 use Rattle.rules.specs.Refusals.{badClock}
@@ -61,11 +61,11 @@ module _ (ds : List Destination) (u : Setup) (now : ℕ) where
         n ∙ rw add-one (table-keep (wokenAt ds u now) zeroDestination ds d h (rw (lt-ltb d (u .destinations) l, not-due _ _ now f)))
 
     pub woken-written : (r : Sums) → isDue (getD next d zeroDestination .health) now ≡ true
-        → r ≡ firstState (getD (u .settings) (at (u .home) d) zeroSettings) → set next d (record { health = Live r }) ≡ wokenTo (d + 1)
+        → r ≡ firstState (settingsIn u d) → set next d (record { health = Live r }) ≡ wokenTo (d + 1)
     unfolding wokenAt if_then_else_
     woken-written r e k =
         let f : isDue (getD ds d zeroDestination .health) now ≡ true = rw as-it-came at e in
-        let g = getD (u .settings) (at (u .home) d) zeroSettings in
+        let g = settingsIn u d in
         let w : wokenAt ds u now d ≡ record { health = Live r } = rw (lt-ltb d (u .destinations) l, is-due g (getD ds d zeroDestination .health) now f, k) in
         rw (n, add-one) (rw w at (table-drop (wokenAt ds u now) ds d h))
 

@@ -3,11 +3,10 @@ use native.Mathlib.Omega.{arith}
 use Prim.Native.Nat.{_-_, _≤_}
 use mathlib.Core.Path.{_≡_, refl, sym, _∙_}
 use mathlib.Core.Bool.{true}
-use lib.ListN.{getD}
 use borrow.Author.Tests.{not-true, not-false}
 use Rattle.laws.specs.Range.{allTo}
 use Rattle.laws.proofs.All.{all-false-of, all-none, all-more}
-use Rattle.rules.specs.State.{at, zeroSettings}
+use Rattle.rules.specs.State.{at, settingsIn}
 use Rattle.clauses.specs.Clauses.{destinationTest}
 use Rattle.rules.proofs.RangeFacts.{home-below}
 use Rattle.clauses.proofs.Ranges.{destinations-few, cohorts-few}
@@ -34,7 +33,7 @@ tested : (c : tie.After-health-right Inv-loop μ-loop)
 unfolding destinationTest
 tested c =
     let u = begun (round c) .args .t1 in
-    c .health-right .ensures (getD (u .settings) (at (u .home) (round c .before .loop .d)) zeroSettings) refl refl
+    c .health-right .ensures (settingsIn u (round c .before .loop .d)) refl refl
 
 loop-holds : tie.Need-loop-holds Inv-loop μ-loop
 loop-holds c = (sym (all-none _), omega arith)
