@@ -1,4 +1,4 @@
--- Laws of firstTo and chosenTo.
+-- Laws of firstTo, greatestTo and chosenTo.
 use Prim.Native.Nat.{ℕ, zero, suc, _+_, _≤_, _<_}
 use mathlib.Core.Bool.{Bool, true, false}
 use mathlib.Core.Path.{_≡_, refl, sym, _∙_}
@@ -13,7 +13,7 @@ use lib.ListN.{length, getD, set, drop, length-append, List·getD-append}
 use lib.Seq.{getD-at}
 use borrow.Author.Tests.{ltb-true, ltb-false, lt-ltb}
 use Rattle.laws.specs.Bools.{if_then_else_, one}
-use Rattle.laws.specs.Range.{anyTo, countTo, firstTo, chosenTo}
+use Rattle.laws.specs.Range.{anyTo, countTo, firstTo, greatestTo, chosenTo}
 use Rattle.laws.proofs.Bools.{true-not-false, case-bool, bool-same, if-cases, one-true}
 use Rattle.laws.proofs.All.{below-suc, any-of, any-witness}
 use Rattle.laws.proofs.Count.{count-suc, count-more, count-miss, count-le-bound, count-injective}
@@ -82,6 +82,24 @@ module _ (p : ℕ → Bool) where
       bool-same
       (λ h. let l = ltb-true (firstTo p n) n h in any-of p n (firstTo p n) l (first-holds n l))
       (λ h. let w = any-witness p n h in lt-ltb (firstTo p n) n (first-found n (w .0) (w .1) (w .2)))
+
+  -- the greatest up to n passes, where 0 does, and none up to n that passes is above it
+  pub greatest-le : (n : ℕ) → greatestTo p n ≤ n
+  unfolding greatestTo
+  greatest-le zero = le-refl 0
+  greatest-le (suc n) = if-cases (λ x. x ≤ suc n) (p (suc n)) (λ t. le-refl (suc n)) (λ f. le-step (greatest-le n))
+
+  pub greatest-holds : (n : ℕ) → p 0 ≡ true → p (greatestTo p n) ≡ true
+  unfolding greatestTo
+  greatest-holds zero z = z
+  greatest-holds (suc n) z = if-cases (λ x. p x ≡ true) (p (suc n)) (λ t. t) (λ f. greatest-holds n z)
+
+  pub greatest-most : (n i : ℕ) → i ≤ n → p i ≡ true → i ≤ greatestTo p n
+  unfolding greatestTo
+  greatest-most zero i l t = l
+  greatest-most (suc n) i l t =
+      if-cases (λ x. i ≤ x) (p (suc n)) (λ k. l)
+      (λ f. ⊎-elim (λ q. true-not-false t (rw q f)) (λ m. greatest-most n i (omega arith) t) (eq-or-lt-of-le l))
 
   pub length-chosen : (n : ℕ) → length (chosenTo p n) ≡ countTo p n
   unfolding chosenTo countTo if_then_else_ one

@@ -35,6 +35,11 @@ unfoldable pub lastTo : (ℕ → Bool) → ℕ → ℕ
 lastTo p zero = 0
 lastTo p (suc n) = if p n then suc n else lastTo p n
 
+-- the greatest number up to n, n among them, that passes the test; 0 where there is none
+unfoldable pub greatestTo : (ℕ → Bool) → ℕ → ℕ
+greatestTo p zero = 0
+greatestTo p (suc n) = if p (suc n) then suc n else greatestTo p n
+
 -- the numbers below n that pass the test, rising
 unfoldable pub chosenTo : (ℕ → Bool) → ℕ → List ℕ
 chosenTo p zero = []

@@ -9,18 +9,19 @@ use Rattle.laws.specs.Range.{allTo}
 use Rattle.laws.proofs.Bools.{and-left, and-right}
 use Rattle.rules.specs.declared.Settings.{Settings}
 use Rattle.rules.specs.declared.Setup.{Setup}
+use Rattle.rules.specs.Sizes.{maxAgents, maxWindow}
 use Rattle.rules.specs.State.{at, zeroSettings}
 use Rattle.rules.specs.Setup.{within, feedbackInRange, slotsInRange, windowsInRange, settingsInRange, setupInRange}
 use Rattle.rules.proofs.RangeFacts.{within-facts}
 
 -- the tests of one transport, joined
 module _ (g : Settings) {a b c d e : Bool} where
-  pub slots-joined : a ≡ within 1 100 (g .agents) → b ≡ within 2 100 (g .cost) → c ≡ within 0 100 (g .loan) → d ≡ within 0 100 (g .discount)
+  pub slots-joined : a ≡ within 1 maxAgents (g .agents) → b ≡ within 2 100 (g .cost) → c ≡ within 0 100 (g .loan) → d ≡ within 0 100 (g .discount)
       → e ≡ within 0 100 (g .minimum) → a && (eqb (g .cost) 0 || b) && c && d && e ≡ slotsInRange g
   unfolding slotsInRange
   slots-joined ea eb ec ed ee = rw (ea, eb, ec, ed, ee) refl
 
-  pub windows-joined : {f : Bool} → a ≡ within 1 20 (g .limit) → b ≡ within 1 (g .limit) (g .initial) → c ≡ feedbackInRange 1 (g .positive)
+  pub windows-joined : {f : Bool} → a ≡ within 1 maxWindow (g .limit) → b ≡ within 1 (g .limit) (g .initial) → c ≡ feedbackInRange 1 (g .positive)
       → d ≡ feedbackInRange 0 (g .negative) → e ≡ within 1 100 (g .cohortlimit) → f ≡ within 1 86_400 (g .suspension)
       → a && b && c && d && e && f ≡ windowsInRange g
   unfolding windowsInRange

@@ -10,9 +10,9 @@ ghost use Rattle.laws.specs.Range.{allTo};
 ghost use Rattle.rules.specs.State.{at, zeroSettings};
 ghost use Rattle.rules.specs.Setup.{within, feedbackInRange, slotsInRange, windowsInRange, settingsInRange, setupInRange};
 
-const MAX_AGENTS: u64 = 100;
+const MAX_AGENTS: u64 = 1_000;
 
-const MAX_WINDOW: u64 = 20;
+const MAX_WINDOW: u64 = 1_000;
 
 // Low to high, both ends in.
 fn within(low: u64, high: u64, x: u64) -> bool
@@ -24,7 +24,7 @@ fn within(low: u64, high: u64, x: u64) -> bool
 fn feedback_in_range(least: u64, f: Feedback) -> bool
     ensures { λ r. ⌜ r ≡ feedbackInRange least f ⌝ }
 {
-    within(least, 100, f.percent) & within(0, 1, f.form)
+    within(least, 100, f.percent) & within(0, 2, f.form)
 }
 
 fn slots_in_range(g: Settings) -> bool

@@ -1,6 +1,6 @@
 -- The rules at the edges that document 01 names, computed: where a definition is off by one, or tests the wrong way, its edge is not what the paper says.
-use Prim.Native.Nat.{ℕ, _+_, _-_}
-use mathlib.Core.Path.{_≡_, refl}
+use Prim.Native.Nat.{ℕ, _+_, _-_, _*_, _/_}
+use mathlib.Core.Path.{_≡_, refl, ap}
 use mathlib.Core.Bool.{true, false}
 use mathlib.Core.List.{List, [], _∷_, foldl}
 use lib.ListN.{take}
@@ -8,6 +8,7 @@ use lib.Dec.{lit≤, le→leb}
 use lib.IntN.{pos}
 use native.Mathlib.Omega.{arith}
 use borrow.Author.Tests.{le-leb}
+use Rattle.rules.specs.declared.Feedback.{Feedback}
 use Rattle.rules.specs.declared.Settings.{Settings}
 use Rattle.rules.specs.declared.Sums.{Sums}
 use Rattle.rules.specs.declared.Health.the-variants.{Live, Dead}
@@ -16,43 +17,56 @@ use Rattle.rules.specs.declared.State.{State}
 use Rattle.rules.specs.Sizes.{U}
 use Rattle.rules.specs.State.{at, waitingOf}
 use Rattle.rules.specs.Setup.{settingsInRange}
-use Rattle.rules.specs.Windows.{isDeadAt, afterFailure}
+use Rattle.rules.specs.Windows.{feedback, cohortShare, isDeadAt, afterFailure}
 use Rattle.rules.specs.Sound.{sumsFit}
 use Rattle.rules.specs.Preemption.{hasCredit, beats, paysFor, longEnough}
 use Rattle.rules.specs.Pick.{pickedJobs, nobody, preemption}
 use Rattle.rules.specs.Calls.{took, picked}
 use Rattle.rules.specs.Tally.{tallied, noTally}
 use Rattle.rules.specs.Demand3.{Ceilings}
-use Rattle.rules.specs.Examples.{flat, perWindow, usual, given, expected, Exact}
+use Rattle.rules.specs.Examples.{flat, perWindow, squareRoot, usual, given, expected, Exact}
 use Rattle.rules.specs.Tallies.{row}
+use Rattle.rules.proofs.Roots.{root-is}
 use Rattle.rules.proofs.Opened.{ranges, sequences, setups, windows, soundness, tallies, runs, shows}
 
--- The percents of feedback: "the range .. becomes 1-100" for the positive one, "Negative 0 stays legal" (A4).
+-- The ranges that requests have moved: everything else at its least.
 
-abbrev percents : ℕ → ℕ → Settings
-percents p n =
+abbrev ends : ℕ → ℕ → ℕ → Feedback → Feedback → Settings
+ends agents limit initial positive negative =
     record {
-      agents = 1;
+      agents = agents;
       cost = 0;
       loan = 0;
       discount = 0;
       minimum = 0;
-      limit = 1;
-      initial = 1;
-      positive = flat p;
-      negative = flat n;
+      limit = limit;
+      initial = initial;
+      positive = positive;
+      negative = negative;
       cohortlimit = 1;
       suspension = 1;
     }
 
+-- "the range .. becomes 1-100" for positive feedback, "Negative 0 stays legal" (A4)
 pub percent-edge :
-    (settingsInRange (percents 0 0) ≡ false)
-    × (settingsInRange (percents 1 0) ≡ true)
-    × (settingsInRange (percents 100 100) ≡ true)
-    × (settingsInRange (percents 101 100) ≡ false)
-    × (settingsInRange (percents 100 101) ≡ false)
+    (settingsInRange (ends 1 1 1 (flat 0) (flat 0)) ≡ false)
+    × (settingsInRange (ends 1 1 1 (flat 1) (flat 0)) ≡ true)
+    × (settingsInRange (ends 1 1 1 (flat 100) (flat 100)) ≡ true)
+    × (settingsInRange (ends 1 1 1 (flat 101) (flat 100)) ≡ false)
+    × (settingsInRange (ends 1 1 1 (flat 100) (flat 101)) ≡ false)
 unfolding ranges setups
 percent-edge = (refl, refl, refl, refl, refl)
+
+-- "Raise the window limit to 1,000 and agents to 1,000 .. Add the third published form" (A6)
+pub wide-edge :
+    (settingsInRange (ends 1_000 1_000 1_000 (squareRoot 1) (squareRoot 0)) ≡ true)
+    × (settingsInRange (ends 1_001 1_000 1_000 (squareRoot 1) (squareRoot 0)) ≡ false)
+    × (settingsInRange (ends 1_000 1_001 1_000 (squareRoot 1) (squareRoot 0)) ≡ false)
+    × (settingsInRange (ends 1_000 999 1_000 (squareRoot 1) (squareRoot 0)) ≡ false)
+    × (settingsInRange (ends 1_000 1_000 1_000 (record { percent = 1; form = 3 }) (squareRoot 0)) ≡ false)
+    × (settingsInRange (ends 1_000 1_000 1_000 (squareRoot 1) (record { percent = 0; form = 3 })) ≡ false)
+unfolding ranges setups
+wide-edge = (refl, refl, refl, refl, refl, refl)
 
 -- Windows: the first six rows of the table of marked examples.
 
@@ -64,6 +78,33 @@ window-rows = refl
 pub exact : Exact
 unfolding ranges windows shows
 exact = refl
+
+-- "rounded up to a whole part" (A6): U/23 leaves 5, a hundredth of it 15 of 23; U/999 leaves 558; a hundredth of U/1000 is 232,792.56
+pub rounded-edge :
+    (feedback (perWindow 100) 23 ≡ 1_012_141_566)
+    × (feedback (perWindow 1) 23 ≡ 10_121_416)
+    × (feedback (perWindow 1) 1_000 ≡ 232_793)
+    × (cohortShare 23 ≡ 1_012_141_566)
+    × (cohortShare 999 ≡ 23_302_559)
+    × (cohortShare 1_000 ≡ 23_279_256)
+unfolding ranges windows
+rounded-edge = (refl, refl, refl, refl, refl, refl)
+
+-- "R at 1 is U; at 4 it is 11,639,628,000", and "p·R/100 rounded down" (A6): 99 hundredths of 16,460,919,778 are 16,296,310,580.22
+pub root-edge :
+    (feedback (squareRoot 100) 1 ≡ U)
+    × (feedback (squareRoot 100) 4 ≡ 11_639_628_000)
+    × (feedback (squareRoot 99) 2 ≡ 16_296_310_580)
+    × (feedback (squareRoot 1) 999 ≡ 7_365_230)
+    × (feedback (squareRoot 100) 1_000 ≡ 736_154_711)
+unfolding ranges windows
+root-edge = (
+  ap (λ R. 100 * R / 100) (root-is 1 U (lit≤ tt) refl),
+  ap (λ R. 100 * R / 100) (root-is 4 11_639_628_000 (lit≤ tt) refl),
+  ap (λ R. 99 * R / 100) (root-is 2 16_460_919_778 (lit≤ tt) refl),
+  ap (λ R. 1 * R / 100) (root-is 999 736_523_065 (lit≤ tt) refl),
+  ap (λ R. 100 * R / 100) (root-is 1_000 736_154_711 (lit≤ tt) refl),
+)
 
 -- "dead when cohorts are at or above the limit", and sound "below" it: a part under limit times U, there, and a part over it
 pub limit-edge :

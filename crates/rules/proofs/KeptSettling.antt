@@ -6,7 +6,7 @@ use mathlib.Core.Bool.{Bool, true, false}
 use native.Mathlib.Omega.{arith}
 use native.Mathlib.Nat.{le-trans}
 use native.Mathlib.Decide.{ℕ-discrete}
-use lib.ListN.{length-set}
+use lib.ListN.{length, length-set}
 use lib.Seq.{getD-set-same, getD-set-other}
 use Rattle.laws.specs.Range.{anyTo, countTo}
 use Rattle.laws.specs.Sequence.{holds}
@@ -33,6 +33,17 @@ use Rattle.rules.proofs.SettledCounts.{reported-entry, settled-busy-of,
 pub record Stepped (w : State) (d : ℕ) (health : Health) (died : Bool) : Type 0 where
   pub live : (u : Sums) → health ≡ Live u → LiveSound (settingsFor w d) u
   pub dead : (end : ℕ) → health ≡ Dead end → (died ≡ true) ⊎ ((i : ℕ) → i < maxEntries → isWaiting w i ≡ true → destinationOf w i ≡ d → ⊥)
+
+-- Destinations, in any state whatever.
+
+module _ (w : State) (e : ℕ) (health : Health) (died : Bool) where
+  pub settled-health : destinationOf w e < length (w .destinations) → healthOf (freed w e health died) (destinationOf w e) ≡ health
+  unfolding settled
+  settled-health l = ap (λ d. d .health) (getD-set-same (w .destinations) (destinationOf w e) (record { health = health }) zeroDestination l)
+
+  pub settled-health-other : (d : ℕ) → d ≢ destinationOf w e → healthOf (freed w e health died) d ≡ healthOf w d
+  unfolding settled
+  settled-health-other d ne = ap (λ d. d .health) (getD-set-other (w .destinations) (destinationOf w e) d (record { health = health }) zeroDestination ne)
 
 module _ (w : State) (e : ℕ) (health : Health) (died : Bool) (shaped : Shaped w) (sound : Sound w) (inside : e < maxEntries) (busy : isBusy w e ≡ true) where
   -- Shape.
@@ -148,16 +159,11 @@ module _ (w : State) (e : ℕ) (health : Health) (died : Bool) (shaped : Shaped 
 
   -- Destinations.
 
-  pub settled-health : healthOf (freed w e health died) (destinationOf w e) ≡ health
-  unfolding settled
-  settled-health =
+  health-self : healthOf (freed w e health died) (destinationOf w e) ≡ health
+  health-self =
       let l = reported-entry w e health died shaped sound inside busy .destination in
       let b = sound .setup .destinations .1 in
-      ap (λ d. d .health) (getD-set-same (w .destinations) (destinationOf w e) (record { health = health }) zeroDestination (rw (shaped .destinations) (omega arith)))
-
-  pub settled-health-other : (d : ℕ) → d ≢ (destinationOf w e) → healthOf (freed w e health died) d ≡ healthOf w d
-  unfolding settled
-  settled-health-other d ne = ap (λ d. d .health) (getD-set-other (w .destinations) (destinationOf w e) d (record { health = health }) zeroDestination ne)
+      settled-health w e health died (rw (shaped .destinations) (omega arith))
 
   -- what waits afterwards waited, and was not put off
   still-waits : (i : ℕ) → i < maxEntries → isWaiting (freed w e health died) i ≡ true → (isWaiting w i ≡ true) × (isPutOff w died (destinationOf w e) i ≡ false)
@@ -169,19 +175,19 @@ module _ (w : State) (e : ℕ) (health : Health) (died : Bool) (shaped : Shaped 
   unfolding settled
   destination-self step =
       record {
-        live = λ u q. step .live u (sym settled-health ∙ q);
+        live = λ u q. step .live u (sym health-self ∙ q);
         dead =
             λ end q i l h z.
             let r = still-waits i l h in
-            ⊎-elim (λ k. true-not-false (put-off-of w died (destinationOf w e) i k (r .0) z) (r .1)) (λ k. k i l (r .0) z) (step .dead end (sym settled-health ∙ q));
+            ⊎-elim (λ k. true-not-false (put-off-of w died (destinationOf w e) i k (r .0) z) (r .1)) (λ k. k i l (r .0) z) (step .dead end (sym health-self ∙ q));
       }
 
   destination-other : (d : ℕ) → d ≢ (destinationOf w e) → DestinationSound w d → DestinationSound (freed w e health died) d
   unfolding settled
   destination-other d ne h =
       record {
-        live = λ u q. h .live u (sym (settled-health-other d ne) ∙ q);
-        dead = λ end q i l k z. h .dead end (sym (settled-health-other d ne) ∙ q) i l (still-waits i l k .0) z;
+        live = λ u q. h .live u (sym (settled-health-other w e health died d ne) ∙ q);
+        dead = λ end q i l k z. h .dead end (sym (settled-health-other w e health died d ne) ∙ q) i l (still-waits i l k .0) z;
       }
 
   destinations-settled : Stepped w (destinationOf w e) health died → (d : ℕ) → d < w .setup .destinations → DestinationSound (freed w e health died) d

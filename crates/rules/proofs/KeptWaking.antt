@@ -30,7 +30,13 @@ woken-health s now d l m =
     ap (λ x. x .health) (getD-table (wokenAt (s .destinations) (s .setup) now) maxDestinations d zeroDestination m
     ∙ if-true (record { health = wokenHealth (settingsFor s d) now (healthOf s d) }) (getD (s .destinations) d zeroDestination) (lt-ltb d (s .setup .destinations) l))
 
--- a dead destination may wake, a live one stays as it is
+-- a live destination stays as it is
+pub woken-still : (s : State) (now d : ℕ) (u : Sums) → Sound s → d < s .setup .destinations → healthOf s d ≡ Live u → healthOf (woken s now) d ≡ Live u
+unfolding wokenHealth
+woken-still s now d u sound inside live =
+    woken-health s now d inside (omega (arith, sound .setup .destinations .1)) ∙ ap (wokenHealth (settingsFor s d) now) live
+
+-- a dead one may wake
 woken-live : (g : Settings) (now : ℕ) (h : Health) → settingsInRange g ≡ true → ((u : Sums) → h ≡ Live u → LiveSound g u) → (u : Sums) → wokenHealth g now h ≡ Live u → LiveSound g u
 unfolding wokenHealth if_then_else_
 woken-live g now (Live v) r k u e = k u e

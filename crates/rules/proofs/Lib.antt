@@ -14,6 +14,8 @@ pub mod JobFacts
 pub mod Soundness
 -- its lists
 pub mod ListFacts
+-- the roots of the third form of feedback
+pub mod Roots
 -- a window's step keeps its ranges
 pub mod WindowLaws
 -- turns that go round
@@ -94,3 +96,5 @@ pub mod Recovery
 -- what is computed: the names to unfold, and single rules at their edges
 pub mod Opened
 pub mod Edges
+-- A6: windows to 20 as they were, and what a report moves
+pub mod WideWindows

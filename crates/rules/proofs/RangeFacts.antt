@@ -77,7 +77,7 @@ pub record WindowsRange (g : Settings) : Type 0 where
 
 percent-range : (least : ℕ) (f : Feedback) → feedbackInRange least f ≡ true → (least ≤ f .percent) × (f .percent ≤ 100)
 unfolding feedbackInRange
-percent-range least f h = within-facts (and-left (within least 100 (f .percent)) (within 0 1 (f .form)) h)
+percent-range least f h = within-facts (and-left (within least 100 (f .percent)) _ h)
 
 pub windows-range : (g : Settings) → settingsInRange g ≡ true → WindowsRange g
 unfolding settingsInRange windowsInRange

@@ -22,28 +22,25 @@ use Rattle.rules.specs.Sizes.{U}
 use Rattle.rules.specs.State.{at, settingsOf, settingsIn, settingsFor, healthOf, windowOf, destinationOf, zeroSettings, zeroDestination}
 use Rattle.rules.specs.Setup.{settingsInRange}
 use Rattle.rules.specs.SoundFacts.{LiveSound, Sound}
-use Rattle.rules.specs.Windows.{feedback, raised, liveAfterSuccess, afterSuccess, afterReport, wokenHealth, woken}
+use Rattle.rules.specs.Windows.{feedback, raised, liveAfterSuccess, afterSuccess, afterReport, woken}
 use Rattle.rules.specs.Taking.{nOf, taken}
 use Rattle.rules.specs.Picking.{finds}
 use Rattle.rules.specs.Preemption.{preempting}
 use Rattle.rules.specs.Pick.{handedOut, pickFrom, pickWith, pickOn, picking}
-use Rattle.rules.specs.Reporting.{reportedHealth}
 use Rattle.rules.specs.Refusals.{setupRefusal, reportRefusal}
 use Rattle.rules.specs.Calls.{Reply, Call, job, pick, report, ask, board, lentTo, refusalOf, accepted, unlessRefused, takingReply, pickingReply, afterPick}
-use Rattle.rules.specs.Calls.{reportingReply, replyTo}
+use Rattle.rules.specs.Calls.{reportReply, replyTo}
 use Rattle.rules.specs.Sound.{implies}
 use Rattle.rules.specs.History.{stateFrom, stateAfter}
 use Rattle.rules.specs.Recovery.{isReport, anyOutcome, isSuccess, counts, reportsIn, inARow, needed, Recovers, RecoveryHolds}
-use Rattle.rules.proofs.Shape.{Shaped}
 use Rattle.rules.proofs.RangeFacts.{implies-at, windows-range, in-range-facts}
 use Rattle.rules.proofs.Soundness.{sound-facts}
 use Rattle.rules.proofs.WindowLaws.{feedback-part}
-use Rattle.rules.proofs.KeptWaking.{woken-health, kept-woken}
-use Rattle.rules.proofs.Accepted.{report-accepted}
+use Rattle.rules.proofs.KeptWaking.{woken-still}
 use Rattle.rules.proofs.Replies.{refusal-unsound, reply-accepted}
 use Rattle.rules.proofs.CallCases.{Steps, Holds, call-keeps}
 use Rattle.rules.proofs.Reached.{reached}
-use Rattle.rules.proofs.ReportedFacts.{reportedBy, report-leaves, reported-health, reported-health-other}
+use Rattle.rules.proofs.ReportedFacts.{report-leaves, report-health, report-health-other}
 
 -- "Set-up with positive feedback 0 now gets refusal 2", whatever else it says
 pub zero-refused : (u : Setup) (t : ℕ) → t < u .transports → getD (u .settings) t zeroSettings .positive .percent ≡ 0 → setupRefusal u ≡ 2
@@ -71,29 +68,24 @@ picking-leaves : (w : State) (now : ℕ) → (picking w now .state .setup ≡ w 
 unfolding picking pickOn
 picking-leaves w now = with-leaves w _ _ _
 
-module _ (s : State) (d : ℕ) (u : Sums) (shaped : Shaped s) (sound : Sound s) (inside : d < s .setup .destinations) (live : healthOf s d ≡ Live u) where
+module _ (s : State) (d : ℕ) (u : Sums) (sound : Sound s) (inside : d < s .setup .destinations) (live : healthOf s d ≡ Live u) where
   -- Waking leaves a live destination as it is, and so does each call that is no accepted report of it.
 
-  woken-still : (now : ℕ) → healthOf (woken s now) d ≡ Live u
-  unfolding wokenHealth
-  woken-still now =
-      woken-health s now d inside (omega (arith, sound .setup .destinations .1)) ∙ ap (wokenHealth (settingsFor s d) now) live
+  awake : (now : ℕ) → healthOf (woken s now) d ≡ Live u
+  awake now = woken-still s now d u sound inside live
 
   accepted-still : (call : Call) → refusalOf s call ≡ 0 → isReport anyOutcome s d call ≡ false → healthOf (accepted s call .state) d ≡ Live u
-  unfolding takingReply afterPick pickingReply reportingReply taken isReport
+  unfolding takingReply afterPick pickingReply taken isReport
   accepted-still (job now t dests list) r n =
-      if-cases (λ (x : Reply). healthOf (x .state) d ≡ Live u) (eqb (nOf (woken s now) dests) 0) (λ z. woken-still now) (λ z. woken-still now)
+      if-cases (λ (x : Reply). healthOf (x .state) d ≡ Live u) (eqb (nOf (woken s now) dests) 0) (λ z. awake now) (λ z. awake now)
   accepted-still (pick now) r n =
       if-cases (λ (x : Reply). healthOf (x .state) d ≡ Live u) (finds (woken s now))
-      (λ z. ap (λ ds. getD ds d zeroDestination .health) (picking-leaves (woken s now) now .1) ∙ woken-still now)
-      (λ z. woken-still now)
+      (λ z. ap (λ ds. getD ds d zeroDestination .health) (picking-leaves (woken s now) now .1) ∙ awake now)
+      (λ z. awake now)
   accepted-still (report now e ticket outcome list) r n =
-      let p = report-accepted s now e ticket list r in
-      let kept = kept-woken s now shaped sound (p .clock .later) in
-      unfold woken in
-      reported-health-other (woken s now) now e outcome (kept .0) (kept .1) (p .entry) (p .busy) d
-      (λ q. true-not-false (eq-eqb (destinationOf s e) d (sym q)) (rw r at n))
-      ∙ woken-still now
+      ap (λ x. healthOf (x .state) d) (reply-accepted s (report now e ticket outcome list) _ r refl)
+      ∙ report-health-other s now e ticket outcome list r d (λ q. true-not-false (eq-eqb (destinationOf s e) d (sym q)) (rw r at n))
+      ∙ awake now
   accepted-still (ask j) r n = live
   accepted-still (board buffer) r n = live
 
@@ -110,18 +102,12 @@ module _ (s : State) (d : ℕ) (u : Sums) (shaped : Shaped s) (sound : Sound s) 
   reported-success : (now e ticket : ℕ) (list : List ℕ) → reportRefusal s now e ticket list ≡ 0 → destinationOf s e ≡ d
       → ltb (u .window) (at (s .busy .destination) d + settingsFor s d .initial) ≡ true
       → healthOf (replyTo s (report now e ticket Success list) .state) d ≡ Live (counted (settingsFor s d) u)
-  unfolding reportingReply
   reported-success now e ticket list r q l =
-      let w : State = woken s now in
-      let p = report-accepted s now e ticket list r in
-      let kept = kept-woken s now shaped sound (p .clock .later) in
-      ap (λ x. healthOf (x .state) d) (sym (reply-accepted s (report now e ticket Success list) _ r refl))
-      ∙ unfold woken in
-      ap (healthOf (reportedBy w now e Success)) (sym q)
-      ∙ reported-health w now e Success (kept .0) (kept .1) (p .entry) (p .busy)
-      ∙ ap (λ x. reportedHealth w now x Success) q
+      ap (healthOf (reportReply s now e ticket Success list .state)) (sym q)
+      ∙ report-health s now e ticket Success list r
+      ∙ ap (λ x. afterReport (settingsFor s x) (at (s .busy .destination) x) now Success (healthOf (woken s now) x)) q
       ∙ unfold afterReport afterSuccess in
-      ap (afterSuccess (settingsFor s d) (at (s .busy .destination) d)) (woken-still now)
+      ap (afterSuccess (settingsFor s d) (at (s .busy .destination) d)) (awake now)
       ∙ ap Live (unfold liveAfterSuccess in if-true _ _ l)
 
   counted-success : (call : Call) → counts s d call ≡ true → healthOf (replyTo s call .state) d ≡ Live (counted (settingsFor s d) u)
@@ -159,12 +145,12 @@ module _ (u : Setup) (d : ℕ) (inside : d < u .destinations) where
 
   module _ (s : State) (a : Unit {0}) (h : Holds (SetUp u) s a) (v : Sums) (live : healthOf s d ≡ Live v) (call : Call) where
     next-still : isReport anyOutcome s d call ≡ false → healthOf (replyTo s call .state) d ≡ Live v
-    next-still = still s d v (h .shaped) (h .sound) (rw (h .said) inside) live call
+    next-still = still s d v (h .sound) (rw (h .said) inside) live call
 
     next-counted : counts s d call ≡ true → healthOf (replyTo s call .state) d ≡ Live (counted g v)
     next-counted c =
         subst (λ x. healthOf (replyTo s call .state) d ≡ Live (counted (settingsIn x d) v)) (h .said)
-        (counted-success s d v (h .shaped) (h .sound) (rw (h .said) inside) live call c)
+        (counted-success s d v (h .sound) (rw (h .said) inside) live call c)
 
   -- a destination that no call reports stays as it is
   unreported : (s : State) (a : Unit {0}) → Holds (SetUp u) s a → (v : Sums) → healthOf s d ≡ Live v

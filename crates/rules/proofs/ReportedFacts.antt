@@ -3,19 +3,28 @@ use Prim.Native.Nat.{ℕ, _+_, _-_, _≤_, _<_}
 use mathlib.Core.Path.{_≡_, refl, sym, _∙_, ap, fun-ext}
 use mathlib.Core.Logic.{_≢_}
 use mathlib.Core.Bool.{Bool, true, false}
-use mathlib.Core.List.{map}
+use mathlib.Core.List.{List, map}
 use native.Mathlib.Omega.{arith}
+use lib.ListN.{length}
 use Rattle.laws.specs.Sequence.{keep, timesIn}
 use Rattle.laws.proofs.Keep.{keep-same}
 use Rattle.laws.proofs.ChosenTimes.{times-chosen}
+use Rattle.laws.proofs.Table.{length-table}
 use Rattle.rules.specs.declared.Health.{Health}
 use Rattle.rules.specs.declared.Outcome.{Outcome}
 use Rattle.rules.specs.declared.State.{State}
-use Rattle.rules.specs.Sizes.{maxTransports, maxEntries}
-use Rattle.rules.specs.State.{healthOf, transportOf, queueOf, isBusy, isPresent, jobOf, destinationOf, waitsOf, waitingOf, parentOf}
+use Rattle.rules.specs.Sizes.{maxTransports, maxDestinations, maxEntries}
+use Rattle.rules.specs.State.{at, settingsFor, healthOf, transportOf, queueOf, isBusy, isPresent, jobOf, destinationOf, waitsOf, waitingOf, parentOf}
 use Rattle.rules.specs.SoundFacts.{Sound, SoundBesides}
+use Rattle.rules.specs.Windows.{afterReport, wokenAt, woken}
 use Rattle.rules.specs.Reporting.{reportedHealth, dies, isPutOff, putOffEntries, putOffOf, settled, stays, nearestStaying, departed, reportedAt, reporting}
+use Rattle.rules.specs.Refusals.{reportRefusal}
+use Rattle.rules.specs.Calls.{report, reportingReply, reportReply}
 use Rattle.rules.proofs.Shape.{Shaped}
+use Rattle.rules.proofs.EntryTests.{busy-used}
+use Rattle.rules.proofs.Soundness.{sound-facts}
+use Rattle.rules.proofs.Accepted.{report-accepted}
+use Rattle.rules.proofs.Replies.{reply-accepted}
 use Rattle.rules.proofs.Settled.{settled-waiting}
 use Rattle.rules.proofs.SettledCounts.{reported-entry, reported-transport}
 use Rattle.rules.proofs.KeptSettling.{shaped-settled, settled-health, settled-health-other, sound-settled}
@@ -85,6 +94,41 @@ reported-waiting-settled : (w : State) (now e : ℕ) (outcome : Outcome) (j : �
 unfolding reporting reportedAt departed waitingOf waitsOf
 reported-waiting-settled w now e outcome j = refl
 
+-- Destinations, in any state whatever.
+
+module _ (w : State) (now e : ℕ) (outcome : Outcome) where
+  reported-health : destinationOf w e < length (w .destinations) → healthOf (reportedBy w now e outcome) (destinationOf w e) ≡ healthBy w now e outcome
+  unfolding reporting reportedAt departed
+  reported-health = settled-health w e (healthBy w now e outcome) (diedBy w now e outcome)
+
+  reported-health-other : (d : ℕ) → d ≢ destinationOf w e → healthOf (reportedBy w now e outcome) d ≡ healthOf w d
+  unfolding reporting reportedAt departed
+  reported-health-other = settled-health-other w e (healthBy w now e outcome) (diedBy w now e outcome)
+
+-- after an accepted report, in the terms of the state before it: the reported one has taken its step after waking, the others have woken
+module _ (s : State) (now e ticket : ℕ) (outcome : Outcome) (list : List ℕ) (accept : reportRefusal s now e ticket list ≡ 0) where
+  reported-inside : destinationOf s e < s .setup .destinations
+  reported-inside =
+      let p = report-accepted s now e ticket list accept in
+      sound-facts s (p .whole) .entries e (p .entry) (busy-used s e (p .busy)) .destination
+
+  given-back : reportReply s now e ticket outcome list .state ≡ reportedBy (woken s now) now e outcome
+  unfolding reportingReply woken
+  given-back = ap (λ x. x .state) (sym (reply-accepted s (report now e ticket outcome list) _ accept refl))
+
+  pub report-health : healthOf (reportReply s now e ticket outcome list .state) (destinationOf s e)
+      ≡ afterReport (settingsFor s (destinationOf s e)) (at (s .busy .destination) (destinationOf s e)) now outcome (healthOf (woken s now) (destinationOf s e))
+  unfolding woken
+  report-health =
+      ap (λ x. healthOf x (destinationOf s e)) given-back
+      ∙ reported-health (woken s now) now e outcome
+      (rw (length-table (wokenAt (s .destinations) (s .setup) now) maxDestinations)
+      (omega (arith, reported-inside, sound-facts s (report-accepted s now e ticket list accept .whole) .setup .destinations .1)))
+
+  pub report-health-other : (d : ℕ) → d ≢ destinationOf s e → healthOf (reportReply s now e ticket outcome list .state) d ≡ healthOf (woken s now) d
+  unfolding woken
+  report-health-other d ne = ap (λ x. healthOf x d) given-back ∙ reported-health-other (woken s now) now e outcome d ne
+
 module _ (w : State) (now e : ℕ) (outcome : Outcome) (shaped : Shaped w) (sound : Sound w) (inside : e < maxEntries) (busy : isBusy w e ≡ true) where
   besides : SoundBesides (transportOf w (destinationOf w e)) (settledBy w now e outcome)
   besides =
@@ -104,16 +148,6 @@ module _ (w : State) (now e : ℕ) (outcome : Outcome) (shaped : Shaped w) (soun
 
   pub reported-waiting-le : (j : ℕ) → waitingOf (reportedBy w now e outcome) j ≤ waitingOf w j
   reported-waiting-le j = omega (arith, reported-waiting j)
-
-  -- Destinations.
-
-  pub reported-health : healthOf (reportedBy w now e outcome) (destinationOf w e) ≡ healthBy w now e outcome
-  unfolding reporting reportedAt departed
-  reported-health = settled-health w e (healthBy w now e outcome) (diedBy w now e outcome) shaped sound inside busy
-
-  pub reported-health-other : (d : ℕ) → d ≢ destinationOf w e → healthOf (reportedBy w now e outcome) d ≡ healthOf w d
-  unfolding reporting reportedAt departed
-  reported-health-other = settled-health-other w e (healthBy w now e outcome) (diedBy w now e outcome) shaped sound inside busy
 
   -- Who stays.
 

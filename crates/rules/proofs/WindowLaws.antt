@@ -2,12 +2,12 @@
 use Prim.Native.Nat.{ℕ, _+_, _*_, _≤_, _<_}
 use mathlib.Core.Path.{_≡_, refl, subst}
 use mathlib.Core.Bool.{true}
-use native.Mathlib.Nat.{div-le-of-le-mul, le-div-iff-mul-le}
+use native.Mathlib.Nat.{mul-le-mul, div-le-of-le-mul, le-div-iff-mul-le}
 use native.Mathlib.Omega.{arith}
 use lib.Dec.{eqb, ltb, leb}
 use borrow.Author.Tests.{ltb-true, leb-true, leb-false}
 use Rattle.laws.proofs.Bools.{if-cases}
-use Rattle.rules.specs.declared.Feedback.{Feedback}
+use Rattle.laws.proofs.Fractions.{rounded-up-bound, rounded-up-some}
 use Rattle.rules.specs.declared.Settings.{Settings}
 use Rattle.rules.specs.declared.Sums.{Sums}
 use Rattle.rules.specs.declared.Health.{Health}
@@ -15,18 +15,23 @@ use Rattle.rules.specs.declared.Health.the-variants.{Live, Dead}
 use Rattle.rules.specs.Sizes.{U}
 use Rattle.rules.specs.Setup.{settingsInRange, firstState}
 use Rattle.rules.specs.SoundFacts.{LiveSound}
-use Rattle.rules.specs.Windows.{cohortBound, feedback, cohortShare, isDeadAt, raised, lowered, liveAfterSuccess, afterSuccess, liveAfterFailure}
+use Rattle.rules.specs.Windows.{cohortBound, root, feedback, cohortShare, isDeadAt, raised, lowered, liveAfterSuccess, afterSuccess, liveAfterFailure}
 use Rattle.rules.specs.Windows.{afterFailure}
+use Rattle.rules.specs.WideWindows.{NeverAboveU}
 use Rattle.rules.proofs.RangeFacts.{windows-range}
+use Rattle.rules.proofs.Roots.{root-le-U, root-holds}
 
--- Feedback is at most 1.
+-- Feedback is at most 1, in each of the three forms (A6).
 
-pub feedback-le-U : (f : Feedback) (window : ℕ) → f .percent ≤ 100 → 1 ≤ window → feedback f window ≤ U
+pub feedback-le-U : NeverAboveU
 unfolding feedback
 feedback-le-U f window h l =
     if-cases (λ x. x ≤ U) (eqb (f .form) 0)
     (λ t. div-le-of-le-mul 100 (omega arith))
-    (λ t. div-le-of-le-mul (100 * window) (omega arith))
+    (λ t.
+    if-cases (λ x. x ≤ U) (eqb (f .form) 1)
+    (λ k. rounded-up-bound (f .percent * U) (100 * window) U (omega arith) (omega arith))
+    (λ k. div-le-of-le-mul 100 (omega (arith, mul-le-mul h (root-le-U window)))))
 
 -- Of a set-up in range the positive one is at least 1 part (A4).
 
@@ -39,7 +44,10 @@ feedback-part g window range l m =
     let p = g .positive .percent in
     if-cases (λ x. 1 ≤ x) (eqb (g .positive .form) 0)
     (λ t. le-div-iff-mul-le {k = 100} {x = 1} {y = p * U} (omega arith) .1 (omega arith))
-    (λ t. le-div-iff-mul-le {k = 100 * window} {x = 1} {y = p * U} (omega arith) .1 (omega arith))
+    (λ t.
+    if-cases (λ x. 1 ≤ x) (eqb (g .positive .form) 1)
+    (λ k. rounded-up-some (p * U) (100 * window) (omega arith) (omega arith))
+    (λ k. le-div-iff-mul-le {k = 100} {x = 1} {y = p * root window} (omega arith) .1 (omega (arith, mul-le-mul (a .0) (root-holds window l .greatest 100 (omega arith))))))
 
 -- The first state.
 

@@ -27,6 +27,9 @@ flat p = record { percent = p; form = 0 }
 abbrev pub perWindow : ℕ → Feedback
 perWindow p = record { percent = p; form = 1 }
 
+abbrev pub squareRoot : ℕ → Feedback
+squareRoot p = record { percent = p; form = 2 }
+
 -- "Defaults; .. limit 20, cohort limit 1", with the initial window and the feedback given
 abbrev pub defaults : ℕ → Feedback → Settings
 defaults initial f =

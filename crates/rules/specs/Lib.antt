@@ -21,4 +21,5 @@ pub mod Ledger
 pub mod Demand3
 pub mod Recovery
 pub mod Examples
+pub mod WideWindows
 pub mod Tallies

@@ -23,11 +23,11 @@ use Rattle.rules.specs.State.{at, zeroSettings, zeroDestination, zeroLis
 unfoldable pub within : ℕ → ℕ → ℕ → Bool
 within low high x = leb low x && leb x high
 
--- feedback in percent, from its least to 100; "each flat or per window"
+-- feedback in percent, from its least to 100; "each flat or per window", or of "the third published form" (A6)
 unfoldable pub feedbackInRange : ℕ → Feedback → Bool
-feedbackInRange least f = within least 100 (f .percent) && within 0 1 (f .form)
+feedbackInRange least f = within least 100 (f .percent) && within 0 2 (f .form)
 
--- "Per transport: agents 1-100; slot cost c 0 (preemption off) or 2-100; loan L 0-100; discount d 0-100; minimum slots M 0-100"
+-- "Per transport: agents" 1-1,000 (A6); "slot cost c 0 (preemption off) or 2-100; loan L 0-100; discount d 0-100; minimum slots M 0-100"
 unfoldable pub slotsInRange : Settings → Bool
 slotsInRange g =
     within 1 maxAgents (g .agents)
@@ -36,8 +36,8 @@ slotsInRange g =
     && within 0 100 (g .discount)
     && within 0 100 (g .minimum)
 
--- "window limit 1-20; initial window 1 to that limit; positive and negative feedback in percent", 1-100 (A4) and 0-100; "cohort limit 1-100;
--- suspension 1-86,400 s"
+-- "window limit" 1-1,000 (A6); "initial window 1 to that limit; positive and negative feedback in percent", 1-100 (A4) and 0-100;
+-- "cohort limit 1-100; suspension 1-86,400 s"
 unfoldable pub windowsInRange : Settings → Bool
 windowsInRange g =
     within 1 maxWindow (g .limit)

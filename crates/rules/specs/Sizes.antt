@@ -19,13 +19,13 @@ maxEntries = 512
 abbrev pub maxLength : ℕ
 maxLength = 256
 
--- "agents 1-100"
+-- "agents to 1,000" (A6)
 abbrev pub maxAgents : ℕ
-maxAgents = 100
+maxAgents = 1_000
 
--- "window limit 1-20"
+-- "Raise the window limit to 1,000" (A6)
 abbrev pub maxWindow : ℕ
-maxWindow = 20
+maxWindow = 1_000
 
 -- "Clock: seconds, 0 to 2^32-1"
 abbrev pub lastSecond : ℕ

@@ -5,7 +5,8 @@ use mathlib.Core.List.{List}
 use lib.ListN.{getD}
 use lib.Dec.{eqb, ltb, leb}
 use Rattle.laws.specs.Bools.{if_then_else_}
-use Rattle.laws.specs.Range.{tableTo}
+use Rattle.laws.specs.Range.{greatestTo, tableTo}
+use Rattle.laws.specs.Fractions.{roundedUp}
 use Rattle.rules.specs.declared.Feedback.{Feedback}
 use Rattle.rules.specs.declared.Settings.{Settings}
 use Rattle.rules.specs.declared.Setup.{Setup}
@@ -21,13 +22,21 @@ use Rattle.rules.specs.State.{at, zeroDestination, settingsIn}
 use Rattle.rules.specs.Changed.{atClock, onDestinations}
 use Rattle.rules.specs.Setup.{firstState}
 
--- "Feedback of p percent is p·U/100 flat, or p·U/(100·window) per window"
-unfoldable pub feedback : Feedback → ℕ → ℕ
-feedback f window = if eqb (f .form) 0 then f .percent * U / 100 else f .percent * U / (100 * window)
+-- "the greatest whole R with R·R·N ≤ U·U" (A6); none is above U
+unfoldable pub root : ℕ → ℕ
+root N = greatestTo (λ R. leb (R * R * N) (U * U)) U
 
--- "cohorts grow by U/window": the share of a cohort that one failure is
+-- "Feedback of p percent is p·U/100 flat, or p·U/(100·window) per window", the latter "rounded up to a whole part", or by the square root,
+-- "p·R/100 rounded down" (A6)
+unfoldable pub feedback : Feedback → ℕ → ℕ
+feedback f window =
+    if eqb (f .form) 0
+    then f .percent * U / 100
+    else (if eqb (f .form) 1 then roundedUp (f .percent * U) (100 * window) else f .percent * root window / 100)
+
+-- "cohorts grow by U/window", "rounded up to a whole part" (A6): the share of a cohort that one failure is
 unfoldable pub cohortShare : ℕ → ℕ
-cohortShare window = U / window
+cohortShare window = roundedUp U window
 
 -- "limit times U", the cohort limit
 abbrev pub cohortBound : Settings → ℕ

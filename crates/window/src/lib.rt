@@ -1,4 +1,5 @@
 // Document 01, "Windows": a destination's first state, and its step after a success or a failure.
+use roots::root;
 use rules::Feedback;
 use rules::Health;
 use rules::Settings;
@@ -6,7 +7,8 @@ use rules::Sums;
 use rules::U;
 ghost use mathlib.Core.Path.{_≡_};
 ghost use mathlib.Core.Bool.{true};
-ghost use Prim.Native.Nat.{_≤_, _<_, min, max};
+ghost use Prim.Native.Nat.{_*_, _≤_, _<_, min, max};
+ghost use Rattle.laws.specs.Fractions.{roundedUp};
 ghost use Rattle.rules.specs.declared.Health.the-variants.{Live};
 ghost use Rattle.rules.specs.Sizes.{U, maxWindow};
 ghost use Rattle.rules.specs.Setup.{settingsInRange, firstState};
@@ -15,25 +17,34 @@ ghost use Rattle.rules.specs.Windows.{lowered, liveAfterFailure, afterFailure};
 ghost use Rattle.window.specs.Fits.{healthFits};
 ghost use Rattle.rules.specs.Sound.{sumsFit};
 
-// The feedback at a window. That both are in range soundness gives for a live destination.
+// a/b rounded up, of no more than 100 times U and of what it is divided by.
+fn rounded_up(a: u64, b: u64) -> u64
+    requires { ⌜ (a ≤ 100 * U) × (1 ≤ b) × (b ≤ 100 * maxWindow) ⌝ }
+    ensures { λ r. ⌜ r ≡ roundedUp a b ⌝ }
+{
+    (a + b - 1) / b
+}
+
+// The feedback at a window, in its form: flat, per window, by the square root. That both are in range soundness gives for a live destination.
 pub fn feedback(f: Feedback, window: u64) -> u64
     requires { ⌜ (f .percent ≤ 100) × (1 ≤ window) × (window ≤ maxWindow) ⌝ }
     ensures { λ r. ⌜ r ≡ feedback f window ⌝ }
 {
-    let parts = f.percent * U;
     if f.form == 0 {
-        parts / 100
-    } else {
-        parts / (100 * window)
+        return f.percent * U / 100;
     }
+    if f.form == 1 {
+        return rounded_up(f.percent * U, 100 * window);
+    }
+    f.percent * root(window) / 100
 }
 
 // The share of a cohort that one failure is, at a live destination's window.
 pub fn cohort_share(window: u64) -> u64
-    requires { ⌜ 1 ≤ window ⌝ }
+    requires { ⌜ (1 ≤ window) × (window ≤ maxWindow) ⌝ }
     ensures { λ r. ⌜ r ≡ cohortShare window ⌝ }
 {
-    U / window
+    rounded_up(U, window)
 }
 
 // A destination's first state.

@@ -4,8 +4,7 @@ use mathlib.Core.Path.{_≡_}
 use mathlib.Core.Bool.{true}
 use native.Mathlib.Omega.{arith}
 use Rattle.rules.specs.Sound.{sumsFit}
-use Rattle.rules.proofs.RangeFacts.{sums-fit-facts}
-use Rattle.window.proofs.WindowLaws.{live-fits, cohorts-sum}
+use Rattle.window.proofs.WindowLaws.{window-asks, live-fits, cohorts-sum}
 use Rattle.window.proofs.Cases.{failure-live, failure-dead}
 use Rattle.window.proofs.after_failure.Statement.{statement}
 use Rattle.window.proofs.after_failure.Tie as tie
@@ -24,7 +23,7 @@ enum-known-h : tie.Need-enum-known-h
 enum-known-h c = search needs
 
 cohort-share-requires : tie.Need-cohort-share-requires
-cohort-share-requires c κs = sums-fit-facts _ _ (live-fits _ _ _ (c .before .h .given .1) (c .before .before .before .pre .1)) .window .0
+cohort-share-requires c κs = window-asks _ _ (c .before .before .before .pre .0) (live-fits _ _ _ (c .before .h .given .1) (c .before .before .before .pre .1))
 
 add-cohorts : tie.Need-add-cohorts
 add-cohorts c = omega (arith, cohorts-sum _ _ (start c .pre .0) (sums-fit c) _ (c .before .cohort-share .ensures))
