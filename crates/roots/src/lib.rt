@@ -1,11 +1,12 @@
-// Document 02, A6: "a table of 1,000 numbers R, the greatest whole R with R·R·N ≤ U·U for N = 1 to 1,000".
+// Document 02, A6: "a table of 1,000 numbers R, the greatest whole R with R·R·N ≤ U·U for N = 1 to 1,000". There is no memory but the stack for a
+// constant to stand in: what is read is first written there. So the table has two parts, by the width of its numbers, and only one of them is written.
 ghost use mathlib.Core.Path.{_≡_};
-ghost use Prim.Native.Nat.{_≤_};
+ghost use Prim.Native.Nat.{_≤_, _<_};
 ghost use Rattle.rules.specs.Sizes.{maxWindow};
 ghost use Rattle.rules.specs.Windows.{root};
 
-// The root of N stands at place N - 1.
-const ROOTS: [u64; 1000] = [
+// N = 1 to 29: above 32 bits.
+const UP_TO_29: [u64; 29] = [
     23_279_256_000,
     16_460_919_778,
     13_440_284_718,
@@ -35,6 +36,10 @@ const ROOTS: [u64; 1000] = [
     4_480_094_906,
     4_399_365_863,
     4_322_849_315,
+];
+
+// N = 30 to 1,000.
+const FROM_30: [u32; 971] = [
     4_250_191_211,
     4_181_077_804,
     4_115_229_944,
@@ -1008,11 +1013,30 @@ const ROOTS: [u64; 1000] = [
     736_154_711,
 ];
 
+fn root_up_to_29(window: u64) -> u64
+    requires { ⌜ (1 ≤ window) × (window < 30) ⌝ }
+    ensures { λ r. ⌜ r ≡ root window ⌝ }
+{
+    let place = (window - 1) as usize;
+    UP_TO_29[place]
+}
+
+fn root_from_30(window: u64) -> u64
+    requires { ⌜ (30 ≤ window) × (window ≤ maxWindow) ⌝ }
+    ensures { λ r. ⌜ r ≡ root window ⌝ }
+{
+    let place = (window - 30) as usize;
+    FROM_30[place] as u64
+}
+
 // The root of a window that is in range.
 pub fn root(window: u64) -> u64
     requires { ⌜ (1 ≤ window) × (window ≤ maxWindow) ⌝ }
     ensures { λ r. ⌜ r ≡ root window ⌝ }
 {
-    let place = (window - 1) as usize;
-    ROOTS[place]
+    if window < 30 {
+        root_up_to_29(window)
+    } else {
+        root_from_30(window)
+    }
 }

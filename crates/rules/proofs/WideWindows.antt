@@ -13,7 +13,6 @@ use Rattle.laws.proofs.Joined.{and-3}
 use Rattle.laws.proofs.All.{all-at}
 use Rattle.rules.specs.declared.Settings.{Settings}
 use Rattle.rules.specs.declared.Sums.{Sums}
-use Rattle.rules.specs.declared.Health.{Health}
 use Rattle.rules.specs.declared.Health.the-variants.{Live, Dead}
 use Rattle.rules.specs.declared.Outcome.{Outcome}
 use Rattle.rules.specs.declared.Outcome.the-variants.{Success, Failure}
@@ -73,19 +72,19 @@ module _ (g : Settings) (u : Sums) (live : LiveSound g u) where
       let w = live .window in
       if-cases (Near u) (ltb (u .failure) fall) (λ t. record { up = omega arith; down = omega arith }) (λ f. same _ refl)
 
-  near-is : (h : Health) (v w : Sums) → Near u w → h ≡ Live w → h ≡ Live v → Near u v
-  near-is h v w n e q = subst (Near u) (let k : w ≡ v = cc in k) n
+  near-is : (w v : Sums) → Near u w → Live w ≡ Live v → Near u v
+  near-is w v n e = subst (Near u) (let k : w ≡ v = cc in k) n
 
   failure-near : (now cohorts : ℕ) (v : Sums) → liveAfterFailure g now u cohorts ≡ Live v → Near u v
   unfolding liveAfterFailure
   failure-near now cohorts v =
       if-cases (λ h. h ≡ Live v → Near u v) (isDeadAt g cohorts)
       (λ t e. let z : _≡_ {A = ℕ} 0 1 = cc in absurd (omega arith))
-      (λ f e. near-is _ v (lowered u (feedback (g .negative) (u .window)) cohorts) (lowered-near (feedback (g .negative) (u .window)) cohorts) refl e)
+      (λ f e. near-is (lowered u (feedback (g .negative) (u .window)) cohorts) v (lowered-near (feedback (g .negative) (u .window)) cohorts) e)
 
   report-near : (busy now : ℕ) (outcome : Outcome) (v : Sums) → afterReport g busy now outcome (Live u) ≡ Live v → Near u v
   unfolding afterReport afterSuccess afterFailure
-  report-near busy now Success v e = near-is _ v (liveAfterSuccess g busy u) (success-near busy) refl e
+  report-near busy now Success v e = near-is (liveAfterSuccess g busy u) v (success-near busy) e
   report-near busy now Failure v e = failure-near now (u .cohorts + cohortShare (u .window)) v e
 
   report-fits : settingsInRange g ≡ true → (busy now : ℕ) (outcome : Outcome) (v : Sums) → afterReport g busy now outcome (Live u) ≡ Live v → LiveSound g v
@@ -99,16 +98,17 @@ pub moves-by-one : MovesByOne
 moves-by-one s now e ticket outcome list accept d inside u v before after = elim (ℕ-discrete d (destinationOf s e)) [
   | yes q ↦
       let step =
-      sym (ap (λ x. afterReport (settingsFor s x) (at (s .busy .destination) x) now outcome (healthOf (woken s now) x)) q
+      ap (λ x. afterReport (settingsFor s x) (at (s .busy .destination) x) now outcome (healthOf (woken s now) x)) q
       ∙ sym (report-health s now e ticket outcome list accept)
-      ∙ ap (healthOf (reportReply s now e ticket outcome list .state)) (sym q))
+      ∙ ap (healthOf (reportReply s now e ticket outcome list .state)) (sym q)
       in
-      let stepped : afterReport g busy now outcome (Live u) ≡ Live v = ap (afterReport g busy now outcome) (sym awake) ∙ sym step ∙ after in
+      let stepped : afterReport g busy now outcome (Live u) ≡ Live v = ap (afterReport g busy now outcome) (sym awake) ∙ step ∙ after in
       let near = report-near g u fits busy now outcome v stepped in
       let kept = report-fits g u fits (sound .setup .settings (at (s .setup .home) d) (sound .setup .home d inside)) busy now outcome v stepped in
       record { up = near .up; down = near .down; success = kept .success; failure = kept .failure; others = λ ne. absurd (ne q) }
   | no ne ↦
-      let still : u ≡ v = let k = sym awake ∙ sym (report-health-other s now e ticket outcome list accept d ne) ∙ after in let r : u ≡ v = cc in r in
+      let same = sym awake ∙ sym (report-health-other s now e ticket outcome list accept d ne) ∙ after in
+      let still : u ≡ v = cc in
       subst (Moves (destinationOf s e) d u) still
       (record { up = omega arith; down = omega arith; success = fits .success; failure = fits .failure; others = λ _. refl })
 ]

@@ -3,7 +3,7 @@
 // The parts that stand for 1 (`U` of specs/Sizes.antt).
 pub const U: u64 = 23_279_256_000;
 
-// A feedback: percent, and its form, 0 flat or 1 per window.
+// A feedback: percent, and its form, 0 flat, 1 per window or 2 by the square root.
 pub struct Feedback {
     pub percent: u64,
     pub form: u64,
