@@ -17,7 +17,7 @@ ghost use Rattle.rules.specs.Windows.{lowered, liveAfterFailure, afterFailure};
 ghost use Rattle.window.specs.Fits.{healthFits};
 ghost use Rattle.rules.specs.Sound.{sumsFit};
 
-// a/b rounded up, of no more than 100 times U and of what it is divided by.
+// a/b rounded up. The bounds are those of p·U and of 100·window.
 fn rounded_up(a: u64, b: u64) -> u64
     requires { ⌜ (a ≤ 100 * U) × (1 ≤ b) × (b ≤ 100 * maxWindow) ⌝ }
     ensures { λ r. ⌜ r ≡ roundedUp a b ⌝ }
