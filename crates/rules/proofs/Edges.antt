@@ -1,6 +1,6 @@
 -- The rules at the edges that document 01 names, computed: where a definition is off by one, or tests the wrong way, its edge is not what the paper says.
-use Prim.Native.Nat.{ℕ, _+_, _-_, _*_, _/_}
-use mathlib.Core.Path.{_≡_, refl, ap}
+use Prim.Native.Nat.{ℕ, _+_, _-_}
+use mathlib.Core.Path.{_≡_, refl}
 use mathlib.Core.Bool.{true, false}
 use mathlib.Core.List.{List, [], _∷_, foldl}
 use lib.ListN.{take}
@@ -99,11 +99,11 @@ pub root-edge :
     × (feedback (squareRoot 100) 1_000 ≡ 736_154_711)
 unfolding ranges windows
 root-edge = (
-  ap (λ R. 100 * R / 100) (root-is 1 U (lit≤ tt) refl),
-  ap (λ R. 100 * R / 100) (root-is 4 11_639_628_000 (lit≤ tt) refl),
-  ap (λ R. 99 * R / 100) (root-is 2 16_460_919_778 (lit≤ tt) refl),
-  ap (λ R. 1 * R / 100) (root-is 999 736_523_065 (lit≤ tt) refl),
-  ap (λ R. 100 * R / 100) (root-is 1_000 736_154_711 (lit≤ tt) refl),
+  rw (root-is 1 U (lit≤ tt) refl) refl,
+  rw (root-is 4 11_639_628_000 (lit≤ tt) refl) refl,
+  rw (root-is 2 16_460_919_778 (lit≤ tt) refl) refl,
+  rw (root-is 999 736_523_065 (lit≤ tt) refl) refl,
+  rw (root-is 1_000 736_154_711 (lit≤ tt) refl) refl,
 )
 
 -- "dead when cohorts are at or above the limit", and sound "below" it: a part under limit times U, there, and a part over it

@@ -5,6 +5,7 @@ use mathlib.Core.Logic.{_⊎_, inl, inr, ⊎-elim}
 use mathlib.Core.Bool.{Bool, true, not}
 use native.Mathlib.Omega.{arith}
 use Rattle.rules.specs.declared.Settings.{Settings}
+use Rattle.rules.specs.declared.Sums.{Sums}
 use Rattle.rules.specs.declared.Health.{Health}
 use Rattle.rules.specs.declared.Health.the-variants.{Live, Dead}
 use Rattle.rules.specs.declared.Outcome.{Outcome}
@@ -13,11 +14,11 @@ use Rattle.rules.specs.declared.State.{State}
 use Rattle.rules.specs.Sizes.{maxEntries}
 use Rattle.rules.specs.State.{at, healthOf, isLive, settingsFor, transportOf, isBusy, destinationOf}
 use Rattle.rules.specs.Setup.{settingsInRange}
-use Rattle.rules.specs.SoundFacts.{Sound}
+use Rattle.rules.specs.SoundFacts.{LiveSound, Sound}
 use Rattle.rules.specs.Windows.{afterSuccess, afterFailure, afterReport}
 use Rattle.rules.specs.Reporting.{reportedHealth, dies, settled, reportedAt, reporting}
 use Rattle.rules.proofs.Shape.{Shaped}
-use Rattle.rules.proofs.WindowLaws.{live-success, live-failure}
+use Rattle.rules.proofs.WindowLaws.{live-report}
 use Rattle.rules.proofs.Settled.{freed}
 use Rattle.rules.proofs.SettledCounts.{reported-entry, reported-transport}
 use Rattle.rules.proofs.KeptSettling.{Stepped, shaped-settled, sound-settled}
@@ -40,19 +41,21 @@ module _ (w : State) (now d : ℕ) (sound : Sound w) (inside : d < w .setup .des
   range : settingsInRange (settingsFor w d) ≡ true
   range = sound .setup .settings (transportOf w d) (sound .setup .home d inside)
 
+  lives : (outcome : Outcome) (u : Sums) → reportedHealth w now d outcome ≡ Live u → LiveSound (settingsFor w d) u
+  lives outcome u = live-report (settingsFor w d) (at (w .busy .destination) d) now outcome (healthOf w d) u range (sound .destinations d inside .live)
+
   pub stepped-of : (outcome : Outcome) → Stepped w d (reportedHealth w now d outcome) (dies (healthOf w d) (reportedHealth w now d outcome))
   unfolding afterReport
   stepped-of Success =
-      let h = sound .destinations d inside in
       record {
-        live = λ u. live-success (settingsFor w d) (at (w .busy .destination) d) (healthOf w d) u range (h .live);
+        live = lives Success;
         dead = λ end e. absurd (success-lives (settingsFor w d) (at (w .busy .destination) d) (healthOf w d) end e);
       }
   stepped-of Failure =
-      let h = sound .destinations d inside in
       record {
-        live = λ u. live-failure (settingsFor w d) now (healthOf w d) u range (h .live);
-        dead = λ end e. ⊎-elim inl (λ r. inr (h .dead (r .0) (r .1))) (failure-dies (settingsFor w d) now (healthOf w d) end e);
+        live = lives Failure;
+        dead =
+            λ end e. ⊎-elim inl (λ r. inr (sound .destinations d inside .dead (r .0) (r .1))) (failure-dies (settingsFor w d) now (healthOf w d) end e);
       }
 
 module _ (w : State) (e : ℕ) (health : Health) (died : Bool) (shaped : Shaped w) (sound : Sound w) (inside : e < maxEntries) (busy : isBusy w e ≡ true) where

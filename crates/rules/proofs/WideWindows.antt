@@ -18,14 +18,13 @@ use Rattle.rules.specs.declared.Outcome.{Outcome}
 use Rattle.rules.specs.declared.Outcome.the-variants.{Success, Failure}
 use Rattle.rules.specs.Sizes.{U}
 use Rattle.rules.specs.State.{at, settingsFor, healthOf, destinationOf}
-use Rattle.rules.specs.Setup.{settingsInRange}
 use Rattle.rules.specs.Windows.{feedback, cohortShare, isDeadAt, raised, liveAfterSuccess, afterSuccess, lowered, liveAfterFailure, afterFailure, afterReport, woken}
 use Rattle.rules.specs.SoundFacts.{LiveSound, Sound}
 use Rattle.rules.specs.Calls.{reportReply}
 use Rattle.rules.specs.Examples.{flat, perWindow, exactAt}
 use Rattle.rules.specs.WideWindows.{OldNumbers, Moves, MovesByOne}
 use Rattle.rules.proofs.Soundness.{sound-facts}
-use Rattle.rules.proofs.WindowLaws.{live-success, live-failure}
+use Rattle.rules.proofs.WindowLaws.{live-report}
 use Rattle.rules.proofs.KeptWaking.{woken-still}
 use Rattle.rules.proofs.Accepted.{report-accepted}
 use Rattle.rules.proofs.ReportedFacts.{report-health, report-health-other}
@@ -87,11 +86,6 @@ module _ (g : Settings) (u : Sums) (live : LiveSound g u) where
   report-near busy now Success v e = near-is (liveAfterSuccess g busy u) v (success-near busy) e
   report-near busy now Failure v e = failure-near now (u .cohorts + cohortShare (u .window)) v e
 
-  report-fits : settingsInRange g ≡ true → (busy now : ℕ) (outcome : Outcome) (v : Sums) → afterReport g busy now outcome (Live u) ≡ Live v → LiveSound g v
-  unfolding afterReport
-  report-fits range busy now Success v e = live-success g busy (Live u) v range (λ w q. subst (LiveSound g) (let k : u ≡ w = cc in k) live) e
-  report-fits range busy now Failure v e = live-failure g now (Live u) v range (λ w q. subst (LiveSound g) (let k : u ≡ w = cc in k) live) e
-
 -- The whole report.
 
 pub moves-by-one : MovesByOne
@@ -104,7 +98,8 @@ moves-by-one s now e ticket outcome list accept d inside u v before after = elim
       in
       let stepped : afterReport g busy now outcome (Live u) ≡ Live v = ap (afterReport g busy now outcome) (sym awake) ∙ step ∙ after in
       let near = report-near g u fits busy now outcome v stepped in
-      let kept = report-fits g u fits (sound .setup .settings (at (s .setup .home) d) (sound .setup .home d inside)) busy now outcome v stepped in
+      let range = sound .setup .settings (at (s .setup .home) d) (sound .setup .home d inside) in
+      let kept = live-report g busy now outcome (Live u) v range (λ w k. subst (LiveSound g) (let e : u ≡ w = cc in e) fits) stepped in
       record { up = near .up; down = near .down; success = kept .success; failure = kept .failure; others = λ ne. absurd (ne q) }
   | no ne ↦
       let same = sym awake ∙ sym (report-health-other s now e ticket outcome list accept d ne) ∙ after in

@@ -12,11 +12,13 @@ use Rattle.rules.specs.declared.Settings.{Settings}
 use Rattle.rules.specs.declared.Sums.{Sums}
 use Rattle.rules.specs.declared.Health.{Health}
 use Rattle.rules.specs.declared.Health.the-variants.{Live, Dead}
+use Rattle.rules.specs.declared.Outcome.{Outcome}
+use Rattle.rules.specs.declared.Outcome.the-variants.{Success, Failure}
 use Rattle.rules.specs.Sizes.{U}
 use Rattle.rules.specs.Setup.{settingsInRange, firstState}
 use Rattle.rules.specs.SoundFacts.{LiveSound}
 use Rattle.rules.specs.Windows.{cohortBound, root, feedback, cohortShare, isDeadAt, raised, lowered, liveAfterSuccess, afterSuccess, liveAfterFailure}
-use Rattle.rules.specs.Windows.{afterFailure}
+use Rattle.rules.specs.Windows.{afterFailure, afterReport}
 use Rattle.rules.specs.WideWindows.{NeverAboveU}
 use Rattle.rules.proofs.RangeFacts.{windows-range}
 use Rattle.rules.proofs.Roots.{root-le-U, root-holds}
@@ -47,7 +49,7 @@ feedback-part g window range l m =
     (λ t.
     if-cases (λ x. 1 ≤ x) (eqb (g .positive .form) 1)
     (λ k. rounded-up-some (p * U) (100 * window) (omega arith) (omega arith))
-    (λ k. le-div-iff-mul-le {k = 100} {x = 1} {y = p * root window} (omega arith) .1 (omega (arith, mul-le-mul (a .0) (root-holds window l .greatest 100 (omega arith))))))
+    (λ k. le-div-iff-mul-le {k = 100} {x = 1} (omega arith) .1 (omega (arith, mul-le-mul (a .0) (root-holds window l .greatest 100 (omega arith))))))
 
 -- The first state.
 
@@ -111,7 +113,7 @@ module _ (g : Settings) (u : Sums) (range : settingsInRange g ≡ true) (live : 
 
 -- any destination
 
-pub live-success : (g : Settings) (busy : ℕ) (h : Health) (v : Sums) → settingsInRange g ≡ true → ((u : Sums) → h ≡ Live u → LiveSound g u)
+live-success : (g : Settings) (busy : ℕ) (h : Health) (v : Sums) → settingsInRange g ≡ true → ((u : Sums) → h ≡ Live u → LiveSound g u)
     → afterSuccess g busy h ≡ Live v → LiveSound g v
 unfolding afterSuccess
 live-success g busy (Live u) v range l e =
@@ -121,8 +123,14 @@ live-success g busy (Dead end) v range l e =
     let q : firstState g ≡ v = cc in
     subst (LiveSound g) q (live-first g range)
 
-pub live-failure : (g : Settings) (now : ℕ) (h : Health) (v : Sums) → settingsInRange g ≡ true → ((u : Sums) → h ≡ Live u → LiveSound g u)
+live-failure : (g : Settings) (now : ℕ) (h : Health) (v : Sums) → settingsInRange g ≡ true → ((u : Sums) → h ≡ Live u → LiveSound g u)
     → afterFailure g now h ≡ Live v → LiveSound g v
 unfolding afterFailure
 live-failure g now (Live u) v range l e = live-after-failure g u range (l u refl) now (u .cohorts + cohortShare (u .window)) v e
 live-failure g now (Dead end) v range l e = let z : _≡_ {A = ℕ} 0 1 = cc in absurd (omega arith)
+
+pub live-report : (g : Settings) (busy now : ℕ) (outcome : Outcome) (h : Health) (v : Sums) → settingsInRange g ≡ true → ((u : Sums) → h ≡ Live u → LiveSound g u)
+    → afterReport g busy now outcome h ≡ Live v → LiveSound g v
+unfolding afterReport
+live-report g busy now Success h = live-success g busy h
+live-report g busy now Failure h = live-failure g now h
