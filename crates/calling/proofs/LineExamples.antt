@@ -45,8 +45,9 @@ pub replies-say :
     × (replyText (pick 0) (saying (granted (1 ∷ 2 ∷ 3 ∷ 4 ∷ [])) []) ≡ 112 ∷ 105 ∷ 99 ∷ 107 ∷ 32 ∷ 49 ∷ 32 ∷ 50 ∷ 32 ∷ 51 ∷ 32 ∷ 52 ∷ 10 ∷ [])
     -- "nopick 0"
     × (replyText (pick 0) (saying (granted (0 ∷ [])) []) ≡ 110 ∷ 111 ∷ 112 ∷ 105 ∷ 99 ∷ 107 ∷ 32 ∷ 48 ∷ 10 ∷ [])
-    -- "report 1 5"
-    × (replyText (report 0 0 0 Outcome.Failure []) (saying (granted (1 ∷ [])) (5 ∷ 9 ∷ [])) ≡ 114 ∷ 101 ∷ 112 ∷ 111 ∷ 114 ∷ 116 ∷ 32 ∷ 49 ∷ 32 ∷ 53 ∷ 10 ∷ [])
+    -- "report 1 5 dead"
+    × (replyText (report 0 0 0 Outcome.Failure []) (saying (granted (1 ∷ 3 ∷ [])) (5 ∷ 9 ∷ []))
+    ≡ 114 ∷ 101 ∷ 112 ∷ 111 ∷ 114 ∷ 116 ∷ 32 ∷ 49 ∷ 32 ∷ 53 ∷ 32 ∷ 100 ∷ 101 ∷ 97 ∷ 100 ∷ 10 ∷ [])
     -- "ask 6"
     × (replyText (ask 0) (saying (granted (6 ∷ [])) []) ≡ 97 ∷ 115 ∷ 107 ∷ 32 ∷ 54 ∷ 10 ∷ [])
     -- "board 3 A|B", of the bytes A, 10, B

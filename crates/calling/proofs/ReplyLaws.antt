@@ -22,9 +22,9 @@ use Rattle.rules.specs.declared.ReportAnswer.{ReportAnswer}
 use Rattle.rules.specs.declared.ReportReply.{ReportReply}
 use Rattle.rules.specs.declared.AskAnswer.{AskAnswer}
 use Rattle.rules.specs.declared.BoardAnswer.{BoardAnswer}
-use Rattle.rules.specs.State.{destinationOf}
+use Rattle.rules.specs.State.{at, destinationOf}
 use Rattle.rules.specs.Setup.{setupInRange}
-use Rattle.rules.specs.Windows.{woken}
+use Rattle.rules.specs.Windows.{moveNumber, woken}
 use Rattle.rules.specs.Taking.{putOffPositions, nOf}
 use Rattle.rules.specs.Reporting.{reporting}
 use Rattle.rules.specs.Board.{blank, lineEnd, numbered, boardText}
@@ -34,7 +34,7 @@ use Rattle.rules.specs.Calls.{reportingReply, reportReply, askReply, boardReply
 use Rattle.rules.specs.Answers.{setupSays, jobSays, pickSays, reportSays, askSays, boardSays}
 use Rattle.rules.specs.Gave.{SetupKept, accepts, jobGave, pickGave, reportGave, askGave, boardGave}
 use Rattle.lines.specs.Names.{jobName, nojobName, reportName, boardName}
-use Rattle.lines.specs.Texts.{Put, numbers, shownByte, malformedText, refusedText, setupText, jobText, pickText, reportText, askText, boardAnswerText}
+use Rattle.lines.specs.Texts.{Put, numbers, shownByte, moveWord, malformedText, refusedText, setupText, jobText, pickText, reportText, askText, boardAnswerText}
 use Rattle.lines.proofs.PutLaws.{put-none, put-as}
 use Rattle.calling.specs.Meaning.{Line, nothing, malformed, setup, call, stateOn}
 use Rattle.calling.specs.Replies.{valuesText, replyText, startText, textOn}
@@ -81,41 +81,45 @@ pub start-said :
 start-said u r h p l =
     (l .0 ∙ ap (λ g. g .state) (h .0), put-long (l .1) (put-as (start-text u (r .answer) (ap (λ g. g .says) (h .0)) (h .1)) p))
 
--- Where a call writes to a lent buffer, its last value is how many places it wrote, and the buffer has them.
+-- Where a call writes to a lent buffer, one of its values is how many places it wrote, the last of a job, the first of a report or a board; and the
+-- buffer has them.
 
 unfoldable last : List ℕ → ℕ
 last [] = 0
 last (k ∷ []) = k
 last (j ∷ k ∷ values) = last (k ∷ values)
 
-abbrev Fits : Reply → Type 0
-Fits r = last (r .says .values) ≤ length (r .buffer)
+abbrev first : List ℕ → ℕ
+first values = at values 0
 
-unless-fits : (n : ℕ) (s : State) (buffer : List ℕ) (r : Reply) → Fits r → Fits (unlessRefused n s buffer r)
-unfolding unlessRefused last
-unless-fits zero s buffer r h = h
-unless-fits (suc n) s buffer r h = omega arith
+abbrev Fits : (List ℕ → ℕ) → Reply → Type 0
+Fits many r = many (r .says .values) ≤ length (r .buffer)
+
+unless-fits : (many : List ℕ → ℕ) → many [] ≡ 0 → (n : ℕ) (s : State) (buffer : List ℕ) (r : Reply) → Fits many r → Fits many (unlessRefused n s buffer r)
+unfolding unlessRefused
+unless-fits many none zero s buffer r h = h
+unless-fits many none (suc n) s buffer r h = omega (arith, none)
 
 written-fits : (vs buffer : List ℕ) → length vs ≤ length (written vs buffer)
 written-fits vs buffer = rw (length-append vs (drop (length vs) buffer)) (omega arith)
 
 module _ (s : State) (now : ℕ) where
-  job-fits : (t : ℕ) (dests list : List ℕ) → Fits (jobReply s now t dests list)
+  job-fits : (t : ℕ) (dests list : List ℕ) → Fits last (jobReply s now t dests list)
   unfolding replyTo takingReply last if_then_else_
   job-fits t dests list =
       let w = written-fits (putOffPositions (woken s now) dests) list in
-      unless-fits (jobRefusal s now t dests list) s list (takingReply (woken s now) now t dests list)
+      unless-fits last refl (jobRefusal s now t dests list) s list (takingReply (woken s now) now t dests list)
       (case-bool (eqb (nOf (woken s now) dests) 0) (λ h. rw h w) (λ h. rw h w))
 
-  report-fits : (i ticket : ℕ) (o : Outcome) (list : List ℕ) → Fits (reportReply s now i ticket o list)
-  unfolding replyTo reportingReply last
+  report-fits : (i ticket : ℕ) (o : Outcome) (list : List ℕ) → Fits first (reportReply s now i ticket o list)
+  unfolding replyTo reportingReply
   report-fits i ticket o list =
-      unless-fits (reportRefusal s now i ticket list) s list (reportingReply (reporting (woken s now) now i (destinationOf s i) o) list)
+      unless-fits first refl (reportRefusal s now i ticket list) s list (reportingReply (reporting (woken s now) now i (destinationOf s i) o) list)
       (written-fits (reporting (woken s now) now i (destinationOf s i) o .putoff) list)
 
-board-fits : (s : State) (buffer : List ℕ) → Fits (boardReply s buffer)
-unfolding replyTo last
-board-fits s buffer = unless-fits (boardRefusal s buffer) s buffer _ (written-fits (boardText s) buffer)
+board-fits : (s : State) (buffer : List ℕ) → Fits first (boardReply s buffer)
+unfolding replyTo
+board-fits s buffer = unless-fits first refl (boardRefusal s buffer) s buffer _ (written-fits (boardText s) buffer)
 
 -- Calls. Of the list that is printed, a part was lent, from its front.
 
@@ -134,7 +138,7 @@ module _ (now t : ℕ) (dests list buffer rest : List ℕ) where
   unfolding replyTo
   job-said s r {m = m} h =
       reply-said s (job now t dests list) (jobGave r buffer) _ m h
-      (job-text (r .state) (r .answer) (subst Fits (sym h) (job-fits s now t dests list)))
+      (job-text (r .state) (r .answer) (subst (Fits last) (sym h) (job-fits s now t dests list)))
 
 module _ (now : ℕ) where
   pick-text : (z : State) (a : PickAnswer) → pickText a ≡ replyText (pick now) (record { says = pickSays a; state = z; buffer = [] })
@@ -151,11 +155,12 @@ module _ (now : ℕ) where
   pick-said s r {m = m} h = reply-said s (pick now) (pickGave r) _ m h (pick-text (r .state) (r .answer))
 
 module _ (now i ticket : ℕ) (o : Outcome) (list buffer rest : List ℕ) where
-  report-text : (z : State) (a : ReportAnswer) → last (reportSays a .values) ≤ length buffer
+  report-text : (z : State) (a : ReportAnswer) → first (reportSays a .values) ≤ length buffer
       → reportText a (buffer ++ rest) ≡ replyText (report now i ticket o list) (record { says = reportSays a; state = z; buffer = buffer })
-  unfolding reportText replyText valuesText last if_then_else_
+  unfolding reportText replyText valuesText if_then_else_
   report-text z (ReportAnswer.Refused k) h = refl
-  report-text z (ReportAnswer.Reported k) h = ap (λ l. reportName ++ (numbered k ++ numbers l) ++ lineEnd) (take-append-le k buffer rest h)
+  report-text z (ReportAnswer.Reported k m) h =
+      ap (λ l. reportName ++ (numbered k ++ numbers l) ++ blank ++ moveWord (moveNumber m) ++ lineEnd) (take-append-le k buffer rest h)
 
   pub report-said :
       (s : State) (r : ReportReply) {x : State} {e y : List ℕ} {n m : ℕ} → reportGave r buffer ≡ reportReply s now i ticket o list
@@ -164,7 +169,7 @@ module _ (now i ticket : ℕ) (o : Outcome) (list buffer rest : List ℕ) where
   unfolding replyTo
   report-said s r {m = m} h =
       reply-said s (report now i ticket o list) (reportGave r buffer) _ m h
-      (report-text (r .state) (r .answer) (subst Fits (sym h) (report-fits s now i ticket o list)))
+      (report-text (r .state) (r .answer) (subst (Fits first) (sym h) (report-fits s now i ticket o list)))
 
 module _ (j : ℕ) where
   ask-text : (z : State) (a : AskAnswer) → askText a ≡ replyText (ask j) (record { says = askSays a; state = z; buffer = [] })
@@ -180,9 +185,9 @@ module _ (j : ℕ) where
   ask-said s a {m = m} h = reply-said s (ask j) (askGave a s) _ m h (ask-text s a)
 
 module _ (text buffer rest : List ℕ) where
-  board-text : (z : State) (a : BoardAnswer) → last (boardSays a .values) ≤ length buffer
+  board-text : (z : State) (a : BoardAnswer) → first (boardSays a .values) ≤ length buffer
       → boardAnswerText a (buffer ++ rest) ≡ replyText (board text) (record { says = boardSays a; state = z; buffer = buffer })
-  unfolding boardAnswerText replyText valuesText last if_then_else_
+  unfolding boardAnswerText replyText valuesText if_then_else_
   board-text z (BoardAnswer.Refused k) h = refl
   board-text z (BoardAnswer.Written k) h = ap (λ l. boardName ++ numbered k ++ blank ++ map shownByte l ++ lineEnd) (take-append-le k buffer rest h)
 
@@ -191,4 +196,4 @@ module _ (text buffer rest : List ℕ) where
       → Put (boardAnswerText a (buffer ++ rest)) e 0 y m → (x ≡ s) × (n ≡ m)
       → Answers s (call (board text)) x e y n
   unfolding replyTo
-  board-said s a {m = m} h = reply-said s (board text) (boardGave a s buffer) _ m h (board-text s a (subst Fits (sym h) (board-fits s text)))
+  board-said s a {m = m} h = reply-said s (board text) (boardGave a s buffer) _ m h (board-text s a (subst (Fits first) (sym h) (board-fits s text)))

@@ -11,7 +11,7 @@ use Rattle.rules.specs.Setup.{setupInRange}
 use Rattle.rules.specs.Board.{blank, lineEnd, numbered}
 use Rattle.rules.specs.Calls.{Reply, Call, job, pick, report, ask, board, setupReply, replyTo}
 use Rattle.lines.specs.Names.{setupName, jobName, pickName, reportName, askName, boardName, nojobName, nopickName}
-use Rattle.lines.specs.Texts.{counted, shownByte, malformedText, refusedText}
+use Rattle.lines.specs.Texts.{counted, shownByte, moveWord, malformedText, refusedText}
 use Rattle.calling.specs.Meaning.{Line, nothing, malformed, setup, call}
 
 -- An accepted call: its values, and what the lent buffer holds at the end.
@@ -26,8 +26,9 @@ valuesText (pick now) values buffer =
     if eqb (length values) 1
     then nopickName ++ numbered (at values 0) ++ lineEnd
     else pickName ++ numbered (at values 0) ++ numbered (at values 1) ++ numbered (at values 2) ++ numbered (at values 3) ++ lineEnd
--- how many were put off, their entry numbers
-valuesText (report now e ticket outcome list) values buffer = reportName ++ counted (at values 0) buffer ++ lineEnd
+-- how many were put off, their entry numbers, why the destination's number moved
+valuesText (report now e ticket outcome list) values buffer =
+    reportName ++ counted (at values 0) buffer ++ blank ++ moveWord (at values 1) ++ lineEnd
 -- entries that ever preempted it
 valuesText (ask j) values buffer = askName ++ numbered (at values 0) ++ lineEnd
 -- length and text, each byte 10 shown as '|'

@@ -9,7 +9,12 @@ use Rattle.laws.specs.Range.{tableTo}
 use Rattle.laws.specs.Sequence.{padded}
 use Rattle.laws.proofs.Table.{table-is}
 use Rattle.laws.proofs.Sequence.{length-padded, getD-padded}
-use Rattle.layout.specs.Layout.{rowValues, rowLength}
+use Rattle.rules.specs.declared.Move.{Move}
+use Rattle.rules.specs.declared.ReportAnswer.{ReportAnswer}
+use Rattle.rules.specs.Windows.{moveNumber}
+use Rattle.rules.specs.Calls.{granted}
+use Rattle.rules.specs.Answers.{reportSays}
+use Rattle.layout.specs.Layout.{rowValues, rowLength, answerRow}
 
 -- a table of a list's places is the list with its zeros
 pub table-padded : (n : ℕ) (vs : List ℕ) → length vs ≤ n → tableTo (λ i. getD vs i 0) n ≡ padded n vs
@@ -45,3 +50,8 @@ module _ (l : List ℕ) (r n : ℕ) (h : length l ≡ rowLength) where
       → putMid 2 (length begun - 2) begun z
       ≡ r ∷ n ∷ padded rowValues values
   row-is values z e = behind-two l r n z (omega (arith, h)) ∙ ap (λ x. r ∷ n ∷ x) (e ∙ ap (λ k. padded k values) part-length)
+
+-- a report's row, with the number of why the number moved
+pub report-row : {row : List ℕ} {putoff k : ℕ} {m : Move} {a : ReportAnswer}
+    → row ≡ answerRow (granted (putoff ∷ k ∷ [])) → k ≡ moveNumber m → a ≡ ReportAnswer.Reported putoff m → row ≡ answerRow (reportSays a)
+report-row e n h = rw (h, ← n) e

@@ -2,6 +2,7 @@
 use rules::AskAnswer;
 use rules::BoardAnswer;
 use rules::JobAnswer;
+use rules::Move;
 use rules::PickAnswer;
 use rules::ReportAnswer;
 ghost use Prim.Native.Nat.{_≤_};
@@ -10,6 +11,7 @@ ghost use mathlib.Core.List.{_∷_, []};
 ghost use lib.ListN.{length, getD};
 ghost use Rattle.laws.specs.Sequence.{padded};
 ghost use Rattle.layout.specs.Layout.{rowValues, rowLength, answerRow};
+ghost use Rattle.rules.specs.Windows.{moveNumber};
 ghost use Rattle.rules.specs.Calls.{refused, granted};
 ghost use Rattle.rules.specs.Answers.{jobSays, pickSays, reportSays, askSays, boardSays};
 
@@ -60,6 +62,19 @@ fn put_value(row: &mut [u64], x: u64)
     put_row(row, 0, &[x]);
 }
 
+// The number of why a window moved.
+fn move_number(m: Move) -> u64
+    ensures { λ r. ⌜ r ≡ moveNumber m ⌝ }
+{
+    match m {
+        Move::Unchanged => 0,
+        Move::Raised => 1,
+        Move::Lowered => 2,
+        Move::Dead => 3,
+        Move::Revived => 4,
+    }
+}
+
 // Each kind of answer.
 
 pub fn put_job(row: &mut [u64], a: JobAnswer)
@@ -99,7 +114,9 @@ pub fn put_report(row: &mut [u64], a: ReportAnswer)
 {
     match a {
         ReportAnswer::Refused(k) => put_refusal(row, k),
-        ReportAnswer::Reported(putoff) => put_value(row, putoff as u64),
+        ReportAnswer::Reported { putoff, moved } => {
+            put_row(row, 0, &[putoff as u64, move_number(moved)])
+        }
     }
 }
 

@@ -41,3 +41,27 @@ refusedName = 114 ∷ 101 ∷ 102 ∷ 117 ∷ 115 ∷ 101 ∷ 100 ∷ []
 -- "malformed"
 abbrev pub malformedName : List ℕ
 malformedName = 109 ∷ 97 ∷ 108 ∷ 102 ∷ 111 ∷ 114 ∷ 109 ∷ 101 ∷ 100 ∷ []
+
+-- "unchanged"
+abbrev pub unchangedName : List ℕ
+unchangedName = 117 ∷ 110 ∷ 99 ∷ 104 ∷ 97 ∷ 110 ∷ 103 ∷ 101 ∷ 100 ∷ []
+
+-- "raised"
+abbrev pub raisedName : List ℕ
+raisedName = 114 ∷ 97 ∷ 105 ∷ 115 ∷ 101 ∷ 100 ∷ []
+
+-- "lowered"
+abbrev pub loweredName : List ℕ
+loweredName = 108 ∷ 111 ∷ 119 ∷ 101 ∷ 114 ∷ 101 ∷ 100 ∷ []
+
+-- "dead"
+abbrev pub deadName : List ℕ
+deadName = 100 ∷ 101 ∷ 97 ∷ 100 ∷ []
+
+-- "revived"
+abbrev pub revivedName : List ℕ
+revivedName = 114 ∷ 101 ∷ 118 ∷ 105 ∷ 118 ∷ 101 ∷ 100 ∷ []
+
+-- why the number moved (A7): the words of the cases, in the order of their numbers
+abbrev pub moveNames : List (List ℕ)
+moveNames = unchangedName ∷ raisedName ∷ loweredName ∷ deadName ∷ revivedName ∷ []

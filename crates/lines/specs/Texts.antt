@@ -2,7 +2,7 @@
 use Prim.Native.Nat.{ℕ, _+_, min, max}
 use mathlib.Core.Path.{_≡_}
 use mathlib.Core.List.{List, [], _∷_, _++_, map}
-use lib.ListN.{length, take}
+use lib.ListN.{length, getD, take}
 use lib.Seq.{sets}
 use lib.Dec.{eqb}
 use Rattle.laws.specs.Bools.{if_then_else_}
@@ -13,8 +13,9 @@ use Rattle.rules.specs.declared.PickAnswer.{PickAnswer}
 use Rattle.rules.specs.declared.ReportAnswer.{ReportAnswer}
 use Rattle.rules.specs.declared.AskAnswer.{AskAnswer}
 use Rattle.rules.specs.declared.BoardAnswer.{BoardAnswer}
+use Rattle.rules.specs.Windows.{moveNumber}
 use Rattle.rules.specs.Board.{blank, lineEnd, numbered}
-use Rattle.lines.specs.Names.{setupName, jobName, pickName, reportName, askName, boardName, nojobName, nopickName, refusedName, malformedName}
+use Rattle.lines.specs.Names.{setupName, jobName, pickName, reportName, askName, boardName, nojobName, nopickName, refusedName, malformedName, moveNames}
 
 -- The text is stored from a place on, byte for byte, as far as there are places; r is the next place.
 pub record Put (text entry : List ℕ) (at : ℕ) (exit : List ℕ) (r : ℕ) : Type 0 where
@@ -33,6 +34,10 @@ counted n list = numbered n ++ numbers (take n list)
 -- each byte 10 as '|'
 unfoldable pub shownByte : ℕ → ℕ
 shownByte b = if eqb b 10 then 124 else b
+
+-- why the number moved, by the case's number
+abbrev pub moveWord : ℕ → List ℕ
+moveWord k = getD moveNames k []
 
 -- Answers.
 
@@ -58,7 +63,7 @@ pickText PickAnswer.Nothing = nopickName ++ numbered 0 ++ lineEnd
 
 unfoldable pub reportText : ReportAnswer → List ℕ → List ℕ
 reportText (ReportAnswer.Refused k) list = refusedText k
-reportText (ReportAnswer.Reported putoff) list = reportName ++ counted putoff list ++ lineEnd
+reportText (ReportAnswer.Reported putoff m) list = reportName ++ counted putoff list ++ blank ++ moveWord (moveNumber m) ++ lineEnd
 
 unfoldable pub askText : AskAnswer → List ℕ
 askText (AskAnswer.Refused k) = refusedText k

@@ -5,15 +5,17 @@ use libc::STDOUT_FILENO;
 use rules::AskAnswer;
 use rules::BoardAnswer;
 use rules::JobAnswer;
+use rules::Move;
 use rules::PickAnswer;
 use rules::ReportAnswer;
 use rules::SetupAnswer;
 ghost use mathlib.Core.Path.{_≡_};
 ghost use mathlib.Core.List.{[], _∷_, _++_, map};
 ghost use lib.ListN.{take};
+ghost use Rattle.rules.specs.Windows.{moveNumber};
 ghost use Rattle.rules.specs.Board.{decimal, blank, lineEnd, numbered};
-ghost use Rattle.lines.specs.Names.{jobName, pickName, boardName};
-ghost use Rattle.lines.specs.Texts.{Put, counted, shownByte, malformedText, refusedText, setupText, jobText, pickText, reportText, askText, boardAnswerText};
+ghost use Rattle.lines.specs.Names.{jobName, pickName, reportName, boardName, nojobName};
+ghost use Rattle.lines.specs.Texts.{Put, counted, shownByte, moveWord, malformedText, refusedText, setupText, jobText, pickText, reportText, askText, boardAnswerText};
 
 pub fn malformed(out: &mut [u8]) -> usize
     ensures { λ r. ⌜ Put malformedText (now (out .entry)) 0 (now (out .exit)) r ⌝ }
@@ -36,7 +38,7 @@ pub fn job(out: &mut [u8], a: JobAnswer, list: &[u16]) -> usize
     match a {
         JobAnswer::Refused(k) => refused(out, k),
         JobAnswer::Taken { job, putoff } => taken(out, job, putoff, list),
-        JobAnswer::PutOff(putoff) => listed(out, b"nojob", putoff, list),
+        JobAnswer::PutOff(putoff) => put_off(out, putoff, list),
     }
 }
 
@@ -60,7 +62,7 @@ pub fn report(out: &mut [u8], a: ReportAnswer, list: &[u16]) -> usize
 {
     match a {
         ReportAnswer::Refused(k) => refused(out, k),
-        ReportAnswer::Reported(putoff) => listed(out, b"report", putoff, list),
+        ReportAnswer::Reported { putoff, moved } => reported(out, putoff, moved, list),
     }
 }
 
@@ -106,11 +108,22 @@ fn taken(out: &mut [u8], job: u8, putoff: u16, list: &[u16]) -> usize
     put_byte(out, at, 10)
 }
 
-fn listed(out: &mut [u8], word: &[u8], putoff: u16, list: &[u16]) -> usize
-    ensures { λ r. ⌜ Put (now (word .entry) ++ counted putoff (now (list .entry)) ++ lineEnd) (now (out .entry)) 0 (now (out .exit)) r ⌝ }
+fn put_off(out: &mut [u8], putoff: u16, list: &[u16]) -> usize
+    ensures { λ r. ⌜ Put (nojobName ++ counted putoff (now (list .entry)) ++ lineEnd) (now (out .entry)) 0 (now (out .exit)) r ⌝ }
 {
-    let mut at = put(out, 0, word);
+    let mut at = put(out, 0, b"nojob");
     at = put_list(out, at, putoff, list);
+    put_byte(out, at, 10)
+}
+
+// How many were put off, so many places of the list, and why the number moved.
+fn reported(out: &mut [u8], putoff: u16, moved: Move, list: &[u16]) -> usize
+    ensures { λ r. ⌜ Put (reportName ++ counted putoff (now (list .entry)) ++ blank ++ moveWord (moveNumber moved) ++ lineEnd) (now (out .entry)) 0 (now (out .exit)) r ⌝ }
+{
+    let mut at = put(out, 0, b"report");
+    at = put_list(out, at, putoff, list);
+    at = put_byte(out, at, 32);
+    at = put_move(out, at, moved);
     put_byte(out, at, 10)
 }
 
@@ -193,6 +206,19 @@ fn put_list(out: &mut [u8], at: usize, n: u16, list: &[u16]) -> usize
         i += 1;
     }
     p
+}
+
+// The word of why the number moved.
+fn put_move(out: &mut [u8], at: usize, m: Move) -> usize
+    ensures { λ r. ⌜ Put (moveWord (moveNumber m)) (now (out .entry)) at (now (out .exit)) r ⌝ }
+{
+    match m {
+        Move::Unchanged => put(out, at, b"unchanged"),
+        Move::Raised => put(out, at, b"raised"),
+        Move::Lowered => put(out, at, b"lowered"),
+        Move::Dead => put(out, at, b"dead"),
+        Move::Revived => put(out, at, b"revived"),
+    }
 }
 
 pub fn wide(x: u16) -> u64

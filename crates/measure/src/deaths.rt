@@ -15,7 +15,7 @@ struct Brink {
 fn put_off(a: ReportAnswer) -> u16 {
     match a {
         ReportAnswer::Refused(_) => 0,
-        ReportAnswer::Reported(n) => n,
+        ReportAnswer::Reported { putoff, .. } => putoff,
     }
 }
 

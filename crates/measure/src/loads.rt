@@ -58,7 +58,7 @@ fn ticket_of(a: PickAnswer) -> u64 {
 fn is_reported(a: ReportAnswer) -> bool {
     match a {
         ReportAnswer::Refused(_) => false,
-        ReportAnswer::Reported(_) => true,
+        ReportAnswer::Reported { .. } => true,
     }
 }
 

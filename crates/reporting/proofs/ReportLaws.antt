@@ -1,7 +1,7 @@
 -- What the code of a report asks of a sound state, and that what it builds is the rules' reply.
 use Prim.Native.Nat.{ℕ, _≤_, _<_}
 use mathlib.Core.Path.{_≡_, refl, sym, _∙_, ap, subst, fun-ext}
-use mathlib.Core.Bool.{Bool, true, false, not, _&&_}
+use mathlib.Core.Bool.{Bool, true, false}
 use mathlib.Core.List.{List, [], _∷_}
 use native.Mathlib.Omega.{arith}
 use native.Mathlib.Decide.{decLt}
@@ -19,15 +19,16 @@ use Rattle.rules.specs.declared.Health.the-variants.{Live, Dead}
 use Rattle.rules.specs.declared.Destination.{Destination}
 use Rattle.rules.specs.declared.JobList.{JobList}
 use Rattle.rules.specs.declared.Outcome.{Outcome}
+use Rattle.rules.specs.declared.StepAnswer.{StepAnswer}
 use Rattle.rules.specs.declared.State.{State}
 use Rattle.rules.specs.Sizes.{maxTransports, maxDestinations, maxJobs, maxEntries}
-use Rattle.rules.specs.State.{at, settingsFor, transportOf, healthOf, isLive, zeroDestination, zeroList, listOf, listed, queueOf, jobOf, destinationOf, isPresent, usedOf}
+use Rattle.rules.specs.State.{at, settingsFor, transportOf, healthOf, zeroDestination, zeroList, listOf, listed, queueOf, jobOf, destinationOf, isPresent, usedOf}
 use Rattle.rules.specs.Setup.{settingsInRange}
 use Rattle.rules.specs.Sound.{busyOn, busyTo}
 use Rattle.rules.specs.Changed.{withParts, onPresent, onDropped, onParent, withKinds}
 use Rattle.rules.specs.SoundFacts.{LiveSound, EntrySound, Sound}
-use Rattle.rules.specs.Windows.{afterReport, woken}
-use Rattle.rules.specs.Reporting.{oneLessBusy, reportedHealth, dies, isPutOff, putOffEntries, putOffOf, kindAfter}
+use Rattle.rules.specs.Windows.{moveNumber, stepped, woken}
+use Rattle.rules.specs.Reporting.{oneLessBusy, reportedStep, isDeath, isPutOff, putOffEntries, putOffOf, kindAfter}
 use Rattle.rules.specs.Reporting.{settled, stays, parentAfter, departed, reportedAt, reporting}
 use Rattle.rules.specs.Calls.{Reply, granted, written, reportingReply}
 use Rattle.laws.specs.Bools.{if_then_else_}
@@ -149,18 +150,18 @@ report-asks s clock e ticket list shape can = record {
 -- What it builds.
 
 module _ (s : State) (clock e : ℕ) (outcome : Outcome) (shape : Shaped s) where
-  abbrev after' : Health
-  after' = reportedHealth (woken s clock) clock (destinationOf s e) outcome
+  abbrev step' : StepAnswer
+  step' = reportedStep (woken s clock) clock (destinationOf s e) outcome
 
   abbrev died' : Bool
-  died' = dies (healthOf (woken s clock) (destinationOf s e)) after'
+  died' = isDeath (step' .moved)
 
   abbrev Left : State
-  Left = settled (woken s clock) e (destinationOf s e) after' died'
+  Left = settled (woken s clock) e (destinationOf s e) (step' .health) died'
 
   -- the step of the destination from a health
-  abbrev from-health : Health → Health
-  from-health = afterReport (settingsFor s (destinationOf s e)) (at (s .busy .destination) (destinationOf s e)) clock outcome
+  abbrev from-health : Health → StepAnswer
+  from-health = stepped (settingsFor s (destinationOf s e)) (at (s .busy .destination) (destinationOf s e)) clock outcome
 
   -- a table of who stays says so of every number
   reads : (λ j. getD (tableTo (stays Left) 32) j false) ≡ stays Left
@@ -172,13 +173,12 @@ module _ (s : State) (clock e : ℕ) (outcome : Outcome) (shape : Shaped s) wher
         ∙ sym (absent-leaves Left j (List·getD-eq-default (s .jobs .present) false {n = j} (omega (arith, present-length (shape .jobs)))))
   ]
 
-  module _ {list : List ℕ} {ds : List Destination} {after : Health} {live live' : Bool} {kind freed dropped written' : List ℕ} {n : ℕ} {stay : List Bool}
+  module _ {list : List ℕ} {ds : List Destination} {step : StepAnswer} {died : Bool} {kind freed dropped written' : List ℕ} {n : ℕ} {stay : List Bool}
       {adopted counts' links' : List ℕ} {marks' : List Bool} {queue arrivals : JobList}
       (woke : ds ≡ woken s clock .destinations)
-      (step : after ≡ from-health (getD ds (destinationOf s e) zeroDestination .health))
-      (lived : live ≡ isLive (getD ds (destinationOf s e) zeroDestination .health))
-      (lives : live' ≡ isLive after)
-      (put : PutOff (live && not live') (destinationOf s e) (s .entries .kind) (s .entries .job) (s .entries .destination) (s .jobs .dropped) list kind dropped written' n)
+      (answered : step ≡ from-health (getD ds (destinationOf s e) zeroDestination .health))
+      (dying : died ≡ isDeath (step .moved))
+      (put : PutOff died (destinationOf s e) (s .entries .kind) (s .entries .job) (s .entries .destination) (s .jobs .dropped) list kind dropped written' n)
       (free : freed ≡ set kind e 0)
       (stayed : stay ≡ tableTo (staysAt freed (s .entries .job) (s .jobs .present) 512) 32)
       (linked : adopted ≡ tableTo (adoptedAt stay (s .jobs .parent)) 32)
@@ -187,13 +187,12 @@ module _ (s : State) (clock e : ℕ) (outcome : Outcome) (shape : Shaped s) wher
       (marks : marks' ≡ stay)
       (queued : queue ≡ listed (keep (λ j. getD stay j false) (queueOf s (transportOf s (destinationOf s e)))))
       (arrived : arrivals ≡ listed (keep (λ j. getD stay j false) (listOf (s .arrivals)))) where
-    after-is : after ≡ after'
+    step-is : step ≡ step'
     unfolding woken
-    after-is = step ∙ ap (λ l. from-health (getD l (destinationOf s e) zeroDestination .health)) woke
+    step-is = answered ∙ ap (λ l. from-health (getD l (destinationOf s e) zeroDestination .health)) woke
 
-    died-is : live && not live' ≡ died'
-    unfolding dies
-    died-is = rw (lived, lives, after-is, woke) refl
+    died-is : died ≡ died'
+    died-is = dying ∙ ap (λ x. isDeath (x .moved)) step-is
 
     was : PutOff died' (destinationOf s e) (s .entries .kind) (s .entries .job) (s .entries .destination) (s .jobs .dropped) list kind dropped written' n
     was = subst (λ b. PutOff b (destinationOf s e) (s .entries .kind) (s .entries .job) (s .entries .destination) (s .jobs .dropped) list kind dropped written' n) died-is put
@@ -232,13 +231,13 @@ module _ (s : State) (clock e : ℕ) (outcome : Outcome) (shape : Shaped s) wher
     number-is = was .number
 
     pub report-is : _≡_ {A = Reply} (record {
-      says = granted (n ∷ []);
+      says = granted (n ∷ moveNumber (step .moved) ∷ []);
       state =
-          withParts s clock (s .ticket) (s .turn) (set ds (destinationOf s e) (record { health = after }))
+          withParts s clock (s .ticket) (s .turn) (set ds (destinationOf s e) (record { health = step .health }))
           (oneLessBusy (s .busy) (transportOf s (destinationOf s e)) (destinationOf s e)) (set (s .queues) (transportOf s (destinationOf s e)) queue) arrivals
           (onPresent (λ l. marks') (onParent (λ l. links') (onDropped (λ l. counts') (s .jobs))))
           (withKinds (s .entries) freed (s .entries .ticket));
       buffer = written';
     }) (reportingReply (reporting (woken s clock) clock e (destinationOf s e) outcome) list)
     unfolding reportingReply reporting reportedAt departed settled woken
-    report-is = rw (counts, links, marks, number-is, list-is, woke, after-is, queue-is, arrivals-is, dropped-is, stay-is, adopted-is, kind-is) refl
+    report-is = rw (counts, links, marks, number-is, list-is, woke, step-is, queue-is, arrivals-is, dropped-is, stay-is, adopted-is, kind-is) refl

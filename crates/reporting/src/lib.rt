@@ -82,18 +82,20 @@ pub fn report(
     let t = home[d] as usize;
     let g = settings[t];
     let x = ds[d];
-    let before = x.health;
+    let found = x.health;
     let mut busy = s.busy;
     let many = busy.destination[d] as u64;
-    let after = settling::step(g, many, now, before, outcome);
-    ds[d] = Destination { health: after };
+    let step = window::step(g, many, now, found, outcome);
+    let left = step.health;
+    ds[d] = Destination { health: left };
     next.destinations = ds;
 
     // the entry is free, and those that wait are put off where the destination died
     busy.transport[t] -= 1;
     busy.destination[d] -= 1;
     next.busy = busy;
-    let died = settling::is_live(before) & !settling::is_live(after);
+    let moved = step.moved;
+    let died = settling::is_death(moved);
     let mut dropped = s.jobs.dropped;
     let count = settling::put_off(
         &mut next.entries.kind,
@@ -129,7 +131,10 @@ pub fn report(
     let arrivals = lists::keep(a, &stays);
     next.arrivals = arrivals;
     ReportReply {
-        answer: ReportAnswer::Reported(count),
+        answer: ReportAnswer::Reported {
+            putoff: count,
+            moved: moved,
+        },
         state: next,
     }
 }

@@ -11,23 +11,27 @@ use borrow.Author.Tests.{le-leb}
 use Rattle.rules.specs.declared.Feedback.{Feedback}
 use Rattle.rules.specs.declared.Settings.{Settings}
 use Rattle.rules.specs.declared.Sums.{Sums}
+use Rattle.rules.specs.declared.Health.{Health}
 use Rattle.rules.specs.declared.Health.the-variants.{Live, Dead}
+use Rattle.rules.specs.declared.Outcome.{Outcome}
+use Rattle.rules.specs.declared.Outcome.the-variants.{Success, Failure}
+use Rattle.rules.specs.declared.Move.{Move}
 use Rattle.rules.specs.declared.Jobs.{Jobs}
 use Rattle.rules.specs.declared.State.{State}
 use Rattle.rules.specs.Sizes.{U}
 use Rattle.rules.specs.State.{at, waitingOf}
 use Rattle.rules.specs.Setup.{settingsInRange}
-use Rattle.rules.specs.Windows.{feedback, cohortShare, isDeadAt, afterFailure}
+use Rattle.rules.specs.Windows.{feedback, cohortShare, isDeadAt, afterFailure, stepped, wokenHealth}
 use Rattle.rules.specs.Sound.{sumsFit}
 use Rattle.rules.specs.Preemption.{hasCredit, beats, paysFor, longEnough}
 use Rattle.rules.specs.Pick.{pickedJobs, nobody, preemption}
 use Rattle.rules.specs.Calls.{took, picked}
 use Rattle.rules.specs.Tally.{tallied, noTally}
 use Rattle.rules.specs.Demand3.{Ceilings}
-use Rattle.rules.specs.Examples.{flat, perWindow, squareRoot, usual, given, expected, Exact}
+use Rattle.rules.specs.Examples.{flat, perWindow, squareRoot, usual, sums, given, expected, Exact}
 use Rattle.rules.specs.Tallies.{row}
 use Rattle.rules.proofs.Roots.{root-is}
-use Rattle.rules.proofs.Opened.{ranges, sequences, setups, windows, soundness, tallies, runs, shows}
+use Rattle.rules.proofs.Opened.{ranges, sequences, setups, windows, soundness, reports, tallies, runs, shows}
 
 -- The ranges that requests have moved: everything else at its least.
 
@@ -123,6 +127,48 @@ limit-edge = (refl, refl, refl, refl, refl, refl)
 pub first-failure-kills : (g : Settings) (now : ℕ) (u : Sums) → g .cohortlimit ≡ 1 → u .window ≡ 1 → afterFailure g now (Live u) ≡ Dead (now + g .suspension)
 unfolding ranges windows
 first-failure-kills g now u one small = rw (one, small, le-leb U (u .cohorts + U) (omega arith))
+
+-- Why the number moved (A7): 100% flat both ways, window limit 20, initial window 5, and this cohort limit.
+
+abbrev steep : ℕ → Settings
+steep cohortlimit =
+    record {
+      agents = 1;
+      cost = 0;
+      loan = 0;
+      discount = 0;
+      minimum = 0;
+      limit = 20;
+      initial = 5;
+      positive = flat 100;
+      negative = flat 100;
+      cohortlimit = cohortlimit;
+      suspension = 300;
+    }
+
+-- at second 300, this one busy alone
+abbrev told : ℕ → Outcome → Health → Move
+told cohortlimit outcome h = stepped (steep cohortlimit) 1 300 outcome h .moved
+
+-- "a step pushed back by a limit is unchanged": at the window limit, where 20 are busy, and at 1
+pub pushed-edge :
+    (stepped (steep 1) 19 300 Success (sums 19 0 0 0) .moved ≡ Move.Raised)
+    × (stepped (steep 1) 20 300 Success (sums 20 0 0 0) .moved ≡ Move.Unchanged)
+    × (told 2 Failure (sums 2 0 0 0) ≡ Move.Lowered)
+    × (told 2 Failure (sums 1 0 0 0) ≡ Move.Unchanged)
+unfolding ranges windows reports
+pushed-edge = (refl, refl, refl, refl)
+
+-- the window counts, not the sums; "it died in the step", or was dead; "a success found it dead", or waking had made it live
+pub death-edge :
+    (told 1 Success (sums 6 7 8 9) ≡ Move.Unchanged)
+    × (told 1 Failure (sums 1 0 0 0) ≡ Move.Dead)
+    × (told 1 Failure (Dead 301) ≡ Move.Unchanged)
+    × (told 1 Success (Dead 301) ≡ Move.Revived)
+    × (told 1 Success (wokenHealth (steep 1) 300 (Dead 301)) ≡ Move.Revived)
+    × (told 1 Success (wokenHealth (steep 1) 300 (Dead 300)) ≡ Move.Raised)
+unfolding ranges windows reports
+death-edge = (refl, refl, refl, refl, refl, refl)
 
 -- "a ≥ 1"
 pub credit-edge : (hasCredit (pos 0) ≡ false) × (hasCredit (pos 1) ≡ true)

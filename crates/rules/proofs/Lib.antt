@@ -98,3 +98,5 @@ pub mod Opened
 pub mod Edges
 -- A6: windows to 20 as they were, and what a report moves
 pub mod WideWindows
+-- A7: what a report tells of its destination
+pub mod WhyMoved

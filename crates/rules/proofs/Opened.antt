@@ -9,7 +9,7 @@ use Rattle.laws.specs.Update.{upd}
 use Rattle.rules.specs.State.{isLive, windowOf, waitsOf, busyOf, usedOf, waitingOf}
 use Rattle.rules.specs.Setup.{within, feedbackInRange, slotsInRange, windowsInRange, settingsInRange, setupInRange, emptyState, firstDestination, freshState}
 use Rattle.rules.specs.Windows.{feedback, cohortShare, isDeadAt, raised, liveAfterSuccess, afterSuccess, lowered, liveAfterFailure}
-use Rattle.rules.specs.Windows.{afterFailure, afterReport, wokenHealth, wokenAt, woken}
+use Rattle.rules.specs.Windows.{afterFailure, afterReport, windowMoved, liveMoved, deadMoved, moved, moveNumber, wokenHealth, wokenAt, woken}
 use Rattle.rules.specs.Sound.{implies, belongs, entrySound, busyOn, busyTo, busySound, isJobOn, queueSound, arrivalsSound, orderOf, orderSound}
 use Rattle.rules.specs.Sound.{countsSound, soldSound, childOf, jobSound, sumsFit, healthSound, sound}
 use Rattle.rules.specs.Taking.{isDead, putOffPositions, keptOf, nOf, newNumber, freePlaces, filled, newOrder, withOrder, taken}
@@ -18,7 +18,7 @@ use Rattle.rules.specs.Picking.{nextTransport, currentJob, passedOver, n
 use Rattle.rules.specs.Preemption.{credit, hasCredit, owned, affordable, isCandidate, beats, better, bestCandidate, paysFor, paysForBest}
 use Rattle.rules.specs.Preemption.{longEnough, isPreempted, preemptorOf, addedTo, charged, preempting}
 use Rattle.rules.specs.Pick.{handedOut, pickFrom, pickWith, pickOn, picking}
-use Rattle.rules.specs.Reporting.{dies, isPutOff, putOffEntries, putOffOf, kindAfter, settled, stays, parentAfter, departed, reportedAt, reporting}
+use Rattle.rules.specs.Reporting.{isDeath, isPutOff, putOffEntries, putOffOf, kindAfter, settled, stays, parentAfter, departed, reportedAt, reporting}
 use Rattle.rules.specs.Refusals.{badClock, isDestinationOn, lacksNumber, lacksPlaces, isBusyWith, setupRefusal, jobRefusal, pickRefusal, reportRefusal}
 use Rattle.rules.specs.Calls.{unlessRefused, setupReply, takingReply, pickingReply, afterPick, reportingReply, replyTo}
 use Rattle.rules.specs.Calls.{takingDecisions, pickDecisions, decidedUnless, decisionsOn}
@@ -41,7 +41,7 @@ unfolding isLive windowOf waitsOf busyOf usedOf waitingOf within feedbackInRange
 setups = tt
 
 unfoldable pub windows : Unit {0}
-unfolding feedback cohortShare isDeadAt raised liveAfterSuccess afterSuccess lowered liveAfterFailure afterFailure wokenHealth wokenAt woken
+unfolding feedback cohortShare isDeadAt raised liveAfterSuccess afterSuccess lowered liveAfterFailure afterFailure windowMoved liveMoved deadMoved moved moveNumber wokenHealth wokenAt woken
 windows = tt
 
 unfoldable pub soundness : Unit {0}
@@ -65,7 +65,7 @@ unfolding handedOut pickFrom pickWith pickOn picking
 picks = tt
 
 unfoldable pub reports : Unit {0}
-unfolding afterReport dies isPutOff putOffEntries putOffOf kindAfter settled stays parentAfter departed reportedAt reporting
+unfolding afterReport isDeath isPutOff putOffEntries putOffOf kindAfter settled stays parentAfter departed reportedAt reporting
 reports = tt
 
 unfoldable pub refusals : Unit {0}

@@ -16,8 +16,8 @@ use Rattle.rules.specs.declared.State.{State}
 use Rattle.rules.specs.Sizes.{maxTransports, maxDestinations, maxEntries}
 use Rattle.rules.specs.State.{at, settingsFor, healthOf, transportOf, queueOf, isBusy, isPresent, jobOf, destinationOf, waitsOf, waitingOf, parentOf}
 use Rattle.rules.specs.SoundFacts.{Sound, SoundBesides}
-use Rattle.rules.specs.Windows.{afterReport, wokenAt, woken}
-use Rattle.rules.specs.Reporting.{reportedHealth, dies, isPutOff, putOffEntries, putOffOf, settled, stays, nearestStaying, departed, reportedAt, reporting}
+use Rattle.rules.specs.Windows.{afterReport, moved, moveNumber, wokenAt, woken}
+use Rattle.rules.specs.Reporting.{reportedStep, isDeath, isPutOff, putOffEntries, putOffOf, settled, stays, nearestStaying, departed, reportedAt, reporting}
 use Rattle.rules.specs.Refusals.{reportRefusal}
 use Rattle.rules.specs.Calls.{report, reportingReply, reportReply}
 use Rattle.rules.proofs.Shape.{Shaped}
@@ -34,10 +34,10 @@ use Rattle.rules.proofs.KeptReporting.{stepped-of}
 
 -- the destination's health after a report of entry e, and whether it died
 abbrev pub healthBy : State → ℕ → ℕ → Outcome → Health
-healthBy w now e outcome = reportedHealth w now (destinationOf w e) outcome
+healthBy w now e outcome = reportedStep w now (destinationOf w e) outcome .health
 
 abbrev pub diedBy : State → ℕ → ℕ → Outcome → Bool
-diedBy w now e outcome = dies (healthOf w (destinationOf w e)) (healthBy w now e outcome)
+diedBy w now e outcome = isDeath (reportedStep w now (destinationOf w e) outcome .moved)
 
 -- the state before anybody leaves
 abbrev pub settledBy : State → ℕ → ℕ → Outcome → State
@@ -112,9 +112,12 @@ module _ (s : State) (now e ticket : ℕ) (outcome : Outcome) (list : List ℕ) 
       let p = report-accepted s now e ticket list accept in
       sound-facts s (p .whole) .entries e (p .entry) (busy-used s e (p .busy)) .destination
 
+  given : reportReply s now e ticket outcome list ≡ reportingReply (reporting (woken s now) now e (destinationOf s e) outcome) list
+  given = sym (reply-accepted s (report now e ticket outcome list) _ accept refl)
+
   given-back : reportReply s now e ticket outcome list .state ≡ reportedBy (woken s now) now e outcome
   unfolding reportingReply woken
-  given-back = ap (λ x. x .state) (sym (reply-accepted s (report now e ticket outcome list) _ accept refl))
+  given-back = ap (λ x. x .state) given
 
   pub report-health : healthOf (reportReply s now e ticket outcome list .state) (destinationOf s e)
       ≡ afterReport (settingsFor s (destinationOf s e)) (at (s .busy .destination) (destinationOf s e)) now outcome (healthOf (woken s now) (destinationOf s e))
@@ -124,6 +127,13 @@ module _ (s : State) (now e ticket : ℕ) (outcome : Outcome) (list : List ℕ) 
       ∙ reported-health (woken s now) now e outcome
       (rw (length-table (wokenAt (s .destinations) (s .setup) now) maxDestinations)
       (omega (arith, reported-inside, sound-facts s (report-accepted s now e ticket list accept .whole) .setup .destinations .1)))
+
+  -- and its second value tells why its number moved
+  pub report-moved : at (reportReply s now e ticket outcome list .says .values) 1
+      ≡ moveNumber (moved outcome (healthOf (woken s now) (destinationOf s e))
+      (afterReport (settingsFor s (destinationOf s e)) (at (s .busy .destination) (destinationOf s e)) now outcome (healthOf (woken s now) (destinationOf s e))))
+  unfolding reportingReply reporting reportedAt woken
+  report-moved = ap (λ x. at (x .says .values) 1) given
 
   pub report-health-other : (d : ℕ) → d ≢ destinationOf s e → healthOf (reportReply s now e ticket outcome list .state) d ≡ healthOf (woken s now) d
   unfolding woken

@@ -7,6 +7,7 @@ use Rattle.rules.specs.declared.PickAnswer.{PickAnswer}
 use Rattle.rules.specs.declared.ReportAnswer.{ReportAnswer}
 use Rattle.rules.specs.declared.AskAnswer.{AskAnswer}
 use Rattle.rules.specs.declared.BoardAnswer.{BoardAnswer}
+use Rattle.rules.specs.Windows.{moveNumber}
 use Rattle.rules.specs.Calls.{Says, refused, granted}
 
 abbrev pub setupSays : SetupAnswer → Says
@@ -25,7 +26,7 @@ pickSays PickAnswer.Nothing = granted (0 ∷ [])
 
 abbrev pub reportSays : ReportAnswer → Says
 reportSays (ReportAnswer.Refused k) = refused k
-reportSays (ReportAnswer.Reported putoff) = granted (putoff ∷ [])
+reportSays (ReportAnswer.Reported putoff m) = granted (putoff ∷ moveNumber m ∷ [])
 
 abbrev pub askSays : AskAnswer → Says
 askSays (AskAnswer.Refused k) = refused k

@@ -10,7 +10,7 @@ use Rattle.rules.specs.declared.State.{State}
 use Rattle.rules.specs.declared.Outcome.{Outcome}
 use Rattle.rules.specs.State.{at, jobOf, destinationOf}
 use Rattle.rules.specs.Setup.{zeroState, freshState}
-use Rattle.rules.specs.Windows.{woken}
+use Rattle.rules.specs.Windows.{moveNumber, woken}
 use Rattle.rules.specs.Taking.{putOffPositions, keptOf, nOf, newNumber, taken}
 use Rattle.rules.specs.Picking.{finds}
 use Rattle.rules.specs.Pick.{Preemption, Found, Picked, picking}
@@ -112,10 +112,14 @@ unfoldable pub afterPick : State → ℕ → Reply
 afterPick w now =
     if finds w then pickingReply w (picking w now) else record { says = granted (0 ∷ []); state = w; buffer = [] }
 
--- A report. "A report answers how many were put off."
+-- A report. "A report answers how many were put off", and hands on why the destination's number moved (A7).
 unfoldable pub reportingReply : Reported → List ℕ → Reply
 reportingReply r list =
-    record { says = granted (length (r .putoff) ∷ []); state = r .state; buffer = written (r .putoff) list }
+    record {
+      says = granted (length (r .putoff) ∷ moveNumber (r .moved) ∷ []);
+      state = r .state;
+      buffer = written (r .putoff) list;
+    }
 
 -- Asking about a job: "the entries that ever preempted it". Board text: "The answer is the text's length; bytes past it stay."
 abbrev pub accepted : State → Call → Reply

@@ -22,4 +22,5 @@ pub mod Demand3
 pub mod Recovery
 pub mod Examples
 pub mod WideWindows
+pub mod WhyMoved
 pub mod Tallies

@@ -1,6 +1,6 @@
 -- Document 01, "Windows", last part: what a report does after the destination's step. The state here is the one after waking.
 use Prim.Native.Nat.{ℕ, _+_, _-_}
-use mathlib.Core.Bool.{Bool, not, _&&_}
+use mathlib.Core.Bool.{Bool, true, false, _&&_}
 use mathlib.Core.List.{List}
 use lib.ListN.{set}
 use lib.Dec.{eqb}
@@ -12,19 +12,25 @@ use Rattle.rules.specs.declared.Health.{Health}
 use Rattle.rules.specs.declared.Busy.{Busy}
 use Rattle.rules.specs.declared.State.{State}
 use Rattle.rules.specs.declared.Outcome.{Outcome}
+use Rattle.rules.specs.declared.Move.{Move}
+use Rattle.rules.specs.declared.StepAnswer.{StepAnswer}
 use Rattle.rules.specs.Sizes.{maxJobs, maxEntries}
-use Rattle.rules.specs.State.{at, transportOf, settingsFor, healthOf, isLive, isWaiting, jobOf, destinationOf, isPresent}
+use Rattle.rules.specs.State.{at, transportOf, settingsFor, healthOf, isWaiting, jobOf, destinationOf, isPresent}
 use Rattle.rules.specs.State.{usedOf, parentOf}
 use Rattle.rules.specs.Changed.{onDestinations, onBusy, onQueue, onArrivals, onJobs, onEntries, onPresent, onDropped, onParent, withKinds}
-use Rattle.rules.specs.Windows.{afterReport}
+use Rattle.rules.specs.Windows.{stepped}
 
--- the destination after its step
-abbrev pub reportedHealth : State → ℕ → ℕ → Outcome → Health
-reportedHealth s now d outcome = afterReport (settingsFor s d) (at (s .busy .destination) d) now outcome (healthOf s d)
+-- the destination's step
+abbrev pub reportedStep : State → ℕ → ℕ → Outcome → StepAnswer
+reportedStep s now d outcome = stepped (settingsFor s d) (at (s .busy .destination) d) now outcome (healthOf s d)
 
--- the destination died in this step
-unfoldable pub dies : Health → Health → Bool
-dies before after = isLive before && not (isLive after)
+-- it died in this step
+unfoldable pub isDeath : Move → Bool
+isDeath Move.Unchanged = false
+isDeath Move.Raised = false
+isDeath Move.Lowered = false
+isDeath Move.Dead = true
+isDeath Move.Revived = false
 
 -- "its waiting entries are put off"
 unfoldable pub isPutOff : State → Bool → ℕ → ℕ → Bool
@@ -76,15 +82,20 @@ departed s t =
     (onArrivals (keep (stays s))
     (onJobs (λ g. onPresent (λ present. tableTo (stays s) maxJobs) (onParent (λ parent. tableTo (parentAfter s) maxJobs) g)) s))
 
--- the put-off entries and the state after a report of entry e
+-- the put-off entries, why the destination's number moved, and the state after a report of entry e
 pub record Reported : Type 0 where
   pub putoff : List ℕ
+  pub moved : Move
   pub state : State
 
-unfoldable pub reportedAt : State → ℕ → ℕ → Health → Bool → Reported
-reportedAt s e d health died =
-    record { putoff = putOffEntries s died d; state = departed (settled s e d health died) (transportOf s d) }
+-- "A report hands this on" (A7)
+unfoldable pub reportedAt : State → ℕ → ℕ → StepAnswer → Reported
+reportedAt s e d step =
+    record {
+      putoff = putOffEntries s (isDeath (step .moved)) d;
+      moved = step .moved;
+      state = departed (settled s e d (step .health) (isDeath (step .moved))) (transportOf s d);
+    }
 
 unfoldable pub reporting : State → ℕ → ℕ → ℕ → Outcome → Reported
-reporting s now e d outcome =
-    reportedAt s e d (reportedHealth s now d outcome) (dies (healthOf s d) (reportedHealth s now d outcome))
+reporting s now e d outcome = reportedAt s e d (reportedStep s now d outcome)

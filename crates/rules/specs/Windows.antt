@@ -17,6 +17,8 @@ use Rattle.rules.specs.declared.Destination.{Destination}
 use Rattle.rules.specs.declared.State.{State}
 use Rattle.rules.specs.declared.Outcome.{Outcome}
 use Rattle.rules.specs.declared.Outcome.the-variants.{Success, Failure}
+use Rattle.rules.specs.declared.Move.{Move}
+use Rattle.rules.specs.declared.StepAnswer.{StepAnswer}
 use Rattle.rules.specs.Sizes.{U, maxDestinations}
 use Rattle.rules.specs.State.{at, zeroDestination, settingsIn}
 use Rattle.rules.specs.Changed.{atClock, onDestinations}
@@ -88,6 +90,46 @@ afterFailure g now (Dead end) = Dead end
 unfoldable pub afterReport : Settings → ℕ → ℕ → Outcome → Health → Health
 afterReport g busy now Success h = afterSuccess g busy h
 afterReport g busy now Failure h = afterFailure g now h
+
+-- Why the number moved (A7).
+
+-- "Raised and lowered mean that a live window ends larger or smaller than the step found it, so a step pushed back by a limit is unchanged"
+unfoldable pub windowMoved : ℕ → ℕ → Move
+windowMoved found left =
+    if ltb found left then Move.Raised
+    else if ltb left found then Move.Lowered
+    else Move.Unchanged
+
+-- "dead that it died in the step"
+unfoldable pub liveMoved : ℕ → Health → Move
+liveMoved found (Live u) = windowMoved found (u .window)
+liveMoved found (Dead end) = Move.Dead
+
+-- "revived that a success found it dead; all else is unchanged"
+unfoldable pub deadMoved : Outcome → Move
+deadMoved Success = Move.Revived
+deadMoved Failure = Move.Unchanged
+
+-- by the outcome, and by the destination as the step found it and as it left it
+unfoldable pub moved : Outcome → Health → Health → Move
+moved outcome (Live u) left = liveMoved (u .window) left
+moved outcome (Dead end) left = deadMoved outcome
+
+-- each case's number, in the order of the request
+unfoldable pub moveNumber : Move → ℕ
+moveNumber Move.Unchanged = 0
+moveNumber Move.Raised = 1
+moveNumber Move.Lowered = 2
+moveNumber Move.Dead = 3
+moveNumber Move.Revived = 4
+
+-- "The window step shall also answer" it
+abbrev pub stepped : Settings → ℕ → ℕ → Outcome → Health → StepAnswer
+stepped g busy now outcome h =
+    record {
+      health = afterReport g busy now outcome h;
+      moved = moved outcome h (afterReport g busy now outcome h);
+    }
 
 -- "wakes destinations whose suspension ends at or before it, to their first state"
 unfoldable pub wokenHealth : Settings → ℕ → Health → Health

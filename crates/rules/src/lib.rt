@@ -112,6 +112,21 @@ pub enum Outcome {
     Failure,
 }
 
+// Why a destination's number moved in the step of a report. Which case it is, and each case's number: specs/Windows.antt.
+pub enum Move {
+    Unchanged,
+    Raised,
+    Lowered,
+    Dead,
+    Revived,
+}
+
+// What that step answers: the destination's health after it, and why its number moved.
+pub struct StepAnswer {
+    pub health: Health,
+    pub moved: Move,
+}
+
 // The answers. `Refused` holds the number of document 01's table.
 
 pub enum SetupAnswer {
@@ -139,7 +154,7 @@ pub enum PickAnswer {
 
 pub enum ReportAnswer {
     Refused(u8),
-    Reported(u16),
+    Reported { putoff: u16, moved: Move },
 }
 
 pub enum AskAnswer {

@@ -1,3 +1,2 @@
 pub mod PutOffLaws
-pub mod HealthCases
 pub mod RefusalLaws

@@ -1,35 +1,21 @@
-// Document 01, "Windows", last part: the steps of a report on its destination and its entries, and its refusal.
+// Document 01, "Windows", last part: what a report does to the entries of its destination, and its refusal.
 use columns::wide;
 use columns::wide32;
-use rules::Health;
-use rules::Outcome;
-use rules::Settings;
+use rules::Move;
 ghost use mathlib.Core.Path.{_≡_};
-ghost use mathlib.Core.Bool.{true};
-ghost use Prim.Native.Nat.{_≤_};
-ghost use Rattle.rules.specs.State.{isLive};
-ghost use Rattle.rules.specs.Setup.{settingsInRange};
-ghost use Rattle.rules.specs.Windows.{afterReport};
-ghost use Rattle.window.specs.Fits.{healthFits};
+ghost use Rattle.rules.specs.Reporting.{isDeath};
 ghost use Rattle.settling.specs.Settling.{CanPutOff, PutOff, entryRefusal};
 
-// The destination after this outcome; busy still counts this delivery.
-pub fn step(g: Settings, busy: u64, now: u64, h: Health, outcome: Outcome) -> Health
-    requires { ⌜ (settingsInRange g ≡ true) × (healthFits g h ≡ true) × (busy ≤ 512) × (now ≤ 4294967295) ⌝ }
-    ensures { λ r. ⌜ r ≡ afterReport g busy now outcome h ⌝ }
+// The destination died in its step.
+pub fn is_death(m: Move) -> bool
+    ensures { λ r. ⌜ r ≡ isDeath m ⌝ }
 {
-    match outcome {
-        Outcome::Success => window::after_success(g, busy, h),
-        Outcome::Failure => window::after_failure(g, now, h),
-    }
-}
-
-pub fn is_live(h: Health) -> bool
-    ensures { λ r. ⌜ r ≡ isLive h ⌝ }
-{
-    match h {
-        Health::Live(_) => true,
-        Health::Dead(_) => false,
+    match m {
+        Move::Unchanged => false,
+        Move::Raised => false,
+        Move::Lowered => false,
+        Move::Dead => true,
+        Move::Revived => false,
     }
 }
 

@@ -1,15 +1,20 @@
 -- One law for each case of a step's rule, as the code reaches it.
 use Prim.Native.Nat.{ℕ, _+_, _-_, _≤_, _<_, min, max}
-use mathlib.Core.Path.{_≡_}
+use mathlib.Core.Path.{_≡_, refl}
 use borrow.Author.Tests.{lt-ltb, le-ltb, le-leb, lt-leb}
 use Rattle.laws.specs.Bools.{if_then_else_}
 use Rattle.rules.specs.declared.Settings.{Settings}
 use Rattle.rules.specs.declared.Sums.{Sums}
 use Rattle.rules.specs.declared.Health.{Health}
 use Rattle.rules.specs.declared.Health.the-variants.{Live, Dead}
+use Rattle.rules.specs.declared.Outcome.{Outcome}
+use Rattle.rules.specs.declared.Outcome.the-variants.{Success, Failure}
+use Rattle.rules.specs.declared.Move.{Move}
+use Rattle.rules.specs.declared.StepAnswer.{StepAnswer}
 use Rattle.rules.specs.Sizes.{U}
 use Rattle.rules.specs.Setup.{firstState}
-use Rattle.rules.specs.Windows.{cohortBound, feedback, cohortShare, isDeadAt, raised, liveAfterSuccess, afterSuccess, lowered, liveAfterFailure, afterFailure}
+use Rattle.rules.specs.Windows.{cohortBound, feedback, cohortShare, isDeadAt, raised, liveAfterSuccess, afterSuccess, lowered, liveAfterFailure, afterFailure, afterReport}
+use Rattle.rules.specs.Windows.{windowMoved, liveMoved, deadMoved, moved, stepped}
 
 abbrev pub sums : ℕ → ℕ → ℕ → ℕ → Sums
 sums window success failure cohorts = record { window = window; success = success; failure = failure; cohorts = cohorts }
@@ -71,3 +76,58 @@ failure-live g now h r u b e k l = rw (e, ← k) l
 pub failure-dead : (g : Settings) (now : ℕ) (h : Health) (end : ℕ) → h ≡ Dead end → Dead end ≡ afterFailure g now h
 unfolding afterFailure
 failure-dead g now h end e = rw e
+
+pub report-success : (g : Settings) (busy now : ℕ) (h r : Health) (outcome : Outcome) → outcome ≡ Success → r ≡ afterSuccess g busy h → r ≡ afterReport g busy now outcome h
+unfolding afterReport
+report-success g busy now h r outcome e k = rw e k
+
+pub report-failure : (g : Settings) (busy now : ℕ) (h r : Health) (outcome : Outcome) → outcome ≡ Failure → r ≡ afterFailure g now h → r ≡ afterReport g busy now outcome h
+unfolding afterReport
+report-failure g busy now h r outcome e k = rw e k
+
+-- Why the number moved.
+
+module _ (found left : ℕ) where
+  pub window-raised : found < left → Move.Raised ≡ windowMoved found left
+  unfolding windowMoved if_then_else_
+  window-raised l = rw (lt-ltb found left l)
+
+  pub window-lowered : left ≤ found → left < found → Move.Lowered ≡ windowMoved found left
+  unfolding windowMoved if_then_else_
+  window-lowered g l = rw (le-ltb found left g, lt-ltb left found l)
+
+  pub window-unchanged : left ≤ found → found ≤ left → Move.Unchanged ≡ windowMoved found left
+  unfolding windowMoved if_then_else_
+  window-unchanged g l = rw (le-ltb found left g, le-ltb left found l)
+
+pub live-lives : (found : ℕ) (left : Health) (u : Sums) (r : Move) → left ≡ Live u → r ≡ windowMoved found (u .window) → r ≡ liveMoved found left
+unfolding liveMoved
+live-lives found left u r e k = rw e k
+
+pub live-dies : (found : ℕ) (left : Health) (end : ℕ) → left ≡ Dead end → Move.Dead ≡ liveMoved found left
+unfolding liveMoved
+live-dies found left end e = rw e
+
+pub dead-revives : (outcome : Outcome) → outcome ≡ Success → Move.Revived ≡ deadMoved outcome
+unfolding deadMoved
+dead-revives outcome e = rw e
+
+pub dead-stays : (outcome : Outcome) → outcome ≡ Failure → Move.Unchanged ≡ deadMoved outcome
+unfolding deadMoved
+dead-stays outcome e = rw e
+
+module _ (outcome : Outcome) (found left : Health) (r : Move) where
+  pub moved-live : (u : Sums) → found ≡ Live u → r ≡ liveMoved (u .window) left → r ≡ moved outcome found left
+  unfolding moved
+  moved-live u e k = rw e k
+
+  pub moved-dead : (end : ℕ) → found ≡ Dead end → r ≡ deadMoved outcome → r ≡ moved outcome found left
+  unfolding moved
+  moved-dead end e k = rw e k
+
+pub step-is :
+    (g : Settings) (busy now : ℕ) (outcome : Outcome) (h left : Health) (m : Move)
+    → left ≡ afterReport g busy now outcome h
+    → m ≡ moved outcome h left
+    → _≡_ {A = StepAnswer} (record { health = left; moved = m }) (stepped g busy now outcome h)
+step-is g busy now outcome h left m e k = rw (k, e) refl

@@ -1,8 +1,11 @@
-// Document 01, "Windows": a destination's first state, and its step after a success or a failure.
+// Document 01, "Windows": a destination's first state, its step after a success or a failure, and why its number moved in it.
 use roots::root;
 use rules::Feedback;
 use rules::Health;
+use rules::Move;
+use rules::Outcome;
 use rules::Settings;
+use rules::StepAnswer;
 use rules::Sums;
 use rules::U;
 ghost use mathlib.Core.Path.{_≡_};
@@ -13,7 +16,8 @@ ghost use Rattle.rules.specs.declared.Health.the-variants.{Live};
 ghost use Rattle.rules.specs.Sizes.{U, maxWindow};
 ghost use Rattle.rules.specs.Setup.{settingsInRange, firstState};
 ghost use Rattle.rules.specs.Windows.{feedback, cohortShare, raised, liveAfterSuccess, afterSuccess};
-ghost use Rattle.rules.specs.Windows.{lowered, liveAfterFailure, afterFailure};
+ghost use Rattle.rules.specs.Windows.{lowered, liveAfterFailure, afterFailure, afterReport};
+ghost use Rattle.rules.specs.Windows.{windowMoved, liveMoved, deadMoved, moved, stepped};
 ghost use Rattle.window.specs.Fits.{healthFits};
 ghost use Rattle.rules.specs.Sound.{sumsFit};
 
@@ -118,7 +122,7 @@ fn revived(g: Settings) -> Health
 
 // A destination after a success; busy still counts this delivery. Soundness gives that the settings are in range, that the
 // destination fits them, and that no more than 512 entries are busy.
-pub fn after_success(g: Settings, busy: u64, h: Health) -> Health
+fn after_success(g: Settings, busy: u64, h: Health) -> Health
     requires { ⌜ (settingsInRange g ≡ true) × (healthFits g h ≡ true) × (busy ≤ 512) ⌝ }
     ensures { λ r. ⌜ r ≡ afterSuccess g busy h ⌝ }
 {
@@ -163,7 +167,7 @@ fn live_after_failure(g: Settings, now: u64, u: Sums, cohorts: u64) -> Health
 }
 
 // A destination after a failure. The clock is at most 2^32-1 by its own test; the rest is soundness.
-pub fn after_failure(g: Settings, now: u64, h: Health) -> Health
+fn after_failure(g: Settings, now: u64, h: Health) -> Health
     requires { ⌜ (settingsInRange g ≡ true) × (healthFits g h ≡ true) × (now ≤ 4294967295) ⌝ }
     ensures { λ r. ⌜ r ≡ afterFailure g now h ⌝ }
 {
@@ -173,5 +177,69 @@ pub fn after_failure(g: Settings, now: u64, h: Health) -> Health
             live_after_failure(g, now, u, cohorts)
         }
         Health::Dead(end) => Health::Dead(end),
+    }
+}
+
+// The destination after this outcome; busy still counts this delivery.
+fn after_report(g: Settings, busy: u64, now: u64, h: Health, outcome: Outcome) -> Health
+    requires { ⌜ (settingsInRange g ≡ true) × (healthFits g h ≡ true) × (busy ≤ 512) × (now ≤ 4294967295) ⌝ }
+    ensures { λ r. ⌜ r ≡ afterReport g busy now outcome h ⌝ }
+{
+    match outcome {
+        Outcome::Success => after_success(g, busy, h),
+        Outcome::Failure => after_failure(g, now, h),
+    }
+}
+
+// Why the number moved, case by case: of a live destination by its windows, of a dead one by the outcome.
+
+fn window_moved(found: u64, left: u64) -> Move
+    ensures { λ r. ⌜ r ≡ windowMoved found left ⌝ }
+{
+    if found < left {
+        return Move::Raised;
+    }
+    if left < found {
+        return Move::Lowered;
+    }
+    Move::Unchanged
+}
+
+fn live_moved(found: u64, left: Health) -> Move
+    ensures { λ r. ⌜ r ≡ liveMoved found left ⌝ }
+{
+    match left {
+        Health::Live(u) => window_moved(found, u.window),
+        Health::Dead(_) => Move::Dead,
+    }
+}
+
+fn dead_moved(outcome: Outcome) -> Move
+    ensures { λ r. ⌜ r ≡ deadMoved outcome ⌝ }
+{
+    match outcome {
+        Outcome::Success => Move::Revived,
+        Outcome::Failure => Move::Unchanged,
+    }
+}
+
+fn moved(outcome: Outcome, found: Health, left: Health) -> Move
+    ensures { λ r. ⌜ r ≡ moved outcome found left ⌝ }
+{
+    match found {
+        Health::Live(u) => live_moved(u.window, left),
+        Health::Dead(_) => dead_moved(outcome),
+    }
+}
+
+// The step of a report on a destination after waking, under what `after_report` asks.
+pub fn step(g: Settings, busy: u64, now: u64, h: Health, outcome: Outcome) -> StepAnswer
+    requires { ⌜ (settingsInRange g ≡ true) × (healthFits g h ≡ true) × (busy ≤ 512) × (now ≤ 4294967295) ⌝ }
+    ensures { λ r. ⌜ r ≡ stepped g busy now outcome h ⌝ }
+{
+    let health = after_report(g, busy, now, h, outcome);
+    StepAnswer {
+        health: health,
+        moved: moved(outcome, h, health),
     }
 }

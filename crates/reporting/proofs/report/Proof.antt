@@ -138,7 +138,7 @@ at-destination c = at-transport (c .before)
 -- Those of the entries and of who leaves; `stepped` is where the busy counts are done.
 
 abbrev stepped : tie.After-put-off → tie.After-busy3
-stepped c = c .before .before .before .before .before .before .before .before .before
+stepped c = c .before .before .before .before .before .before .before .before
 
 abbrev put-off : tie.After-put-kind-arg → tie.After-put-off
 put-off c = c .before .before .before
@@ -279,15 +279,12 @@ sub-busy-2 c = asks (at-destination c) .busyDestination
 element-write-busy-2 : tie.Need-element-write-busy-2
 element-write-busy-2 c = asks (at-destination c) .destination
 
-is-live-requires : tie.Need-is-live-requires
-is-live-requires c κs = tt
-
-is-live-requires-2 : tie.Need-is-live-requires-2
-is-live-requires-2 c κs = tt
+is-death-requires : tie.Need-is-death-requires
+is-death-requires c κs = tt
 
 put-off-requires : tie.Need-put-off-requires
 put-off-requires c κs =
-    let p = at-destination (c .before .before .before .before .before .before .before .before) in
+    let p = at-destination (c .before .before .before .before .before .before .before) in
     put-off-asks _ _ _ _ _ (shape (from p)) (can p)
 
 put-kind-requires : tie.Need-put-kind-requires
@@ -362,7 +359,7 @@ returns-4 c =
     let queue = ap (λ (q : JobList). listed (keep (λ j. getD (stay .staying .result) j false) (listOf q))) (own-queue p) in
     reply-accepted (state f) (Call.report (time f) (entry f) (ticket f) (outcome f) (lent f)) _ (accepted p)
     (report-is (state f) (time f) (entry f) (outcome f) (shape f) (awake (woke (step .before .before .before .before .before .before))) (step .step .ensures)
-    (off .before .before .before .before .before .before .before .before .is-live .ensures) (off .before .before .before .before .before .before .before .is-live2 .ensures)
+    (off .before .before .before .before .before .before .before .is-death .ensures)
     (off .put-off .ensures) (free .put-kind .ensures) (stay .staying .ensures) (a .adopt .ensures)
     (last c .before .before .before .before .put-counts .ensures) (last c .before .before .put-links .ensures) (last c .put-marks .ensures)
     (kept (c .before) .keep .ensures ∙ queue) (c .keep2 .ensures))
@@ -402,8 +399,7 @@ report-spec =
     element-copy-out-busy-2
     sub-busy-2
     element-write-busy-2
-    is-live-requires
-    is-live-requires-2
+    is-death-requires
     put-off-requires
     put-kind-requires
     staying-requires

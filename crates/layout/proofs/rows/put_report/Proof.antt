@@ -2,6 +2,7 @@ use borrow.Author.Needs.{needs}
 use mathlib.Core.Path.{sym, _∙_, ap}
 use Rattle.rules.specs.Answers.{reportSays}
 use Rattle.layout.specs.Layout.{answerRow}
+use Rattle.layout.proofs.RowLaws.{report-row}
 use Rattle.layout.proofs.rows.put_report.Statement.{statement}
 use Rattle.layout.proofs.rows.put_report.Tie as tie
 
@@ -14,11 +15,17 @@ put-refusal-requires c κs = search needs
 enum-known-a-2 : tie.Need-enum-known-a-2
 enum-known-a-2 c = search needs
 
-cast-put-value : tie.Need-cast-put-value
-cast-put-value c = search needs
+cast-t13 : tie.Need-cast-t13
+cast-t13 c = search needs
 
-put-value-requires : tie.Need-put-value-requires
-put-value-requires c κs = search needs
+move-number-requires : tie.Need-move-number-requires
+move-number-requires c κs = search needs
+
+slice-aggregate-put-row : tie.Need-slice-aggregate-put-row
+slice-aggregate-put-row c = search needs
+
+put-row-requires : tie.Need-put-row-requires
+put-row-requires c κs = search needs
 
 same-length : tie.Need-same-length
 same-length c = search needs
@@ -30,7 +37,7 @@ same-length-2 : tie.Need-same-length-2
 same-length-2 c = search needs
 
 returns-2 : tie.Need-returns-2
-returns-2 c = c .before .before .put-value .ensures ∙ sym (ap (λ x. answerRow (reportSays x)) (c .before .before .before .before .before .a2 .given .1))
+returns-2 c = report-row (c .before .before .put-row .ensures) (c .before .before .before .before .move-number .ensures) (c .before .before .before .before .before .before .before .a2 .given .1)
 
 pub put-report-spec : {M : Type 1} → statement M
 put-report-spec =
@@ -39,8 +46,10 @@ put-report-spec =
     enum-known-a
     put-refusal-requires
     enum-known-a-2
-    cast-put-value
-    put-value-requires
+    cast-t13
+    move-number-requires
+    slice-aggregate-put-row
+    put-row-requires
     same-length
     returns
     same-length-2

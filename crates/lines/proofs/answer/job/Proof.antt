@@ -20,11 +20,8 @@ taken-requires c κs = search needs
 enum-known-a-3 : tie.Need-enum-known-a-3
 enum-known-a-3 c = search needs
 
-slice-aggregate-listed : tie.Need-slice-aggregate-listed
-slice-aggregate-listed c = search needs
-
-listed-requires : tie.Need-listed-requires
-listed-requires c κs = search needs
+put-off-requires : tie.Need-put-off-requires
+put-off-requires c κs = search needs
 
 same-length : tie.Need-same-length
 same-length c = search needs
@@ -50,8 +47,7 @@ same-length-3 c = search needs
 returns-3 : tie.Need-returns-3
 unfolding jobText
 returns-3 c =
-    put-case (λ a. jobText a (c .before .before .before .before .before .before .before .before .before .before .args .list .now))
-    (c .before .before .before .before .before .before .a3 .given .1) (c .before .before .listed .ensures)
+    put-case (λ a. jobText a (c .before .before .before .before .before .before .before .before .before .args .list .now)) (c .before .before .before .before .before .a3 .given .1) (c .before .before .put-off .ensures)
 
 pub job-spec : {M : Type 1} → statement M
 job-spec =
@@ -62,8 +58,7 @@ job-spec =
     enum-known-a-2
     taken-requires
     enum-known-a-3
-    slice-aggregate-listed
-    listed-requires
+    put-off-requires
     same-length
     returns
     same-length-2

@@ -14,11 +14,8 @@ refused-requires c κs = search needs
 enum-known-a-2 : tie.Need-enum-known-a-2
 enum-known-a-2 c = search needs
 
-slice-aggregate-listed : tie.Need-slice-aggregate-listed
-slice-aggregate-listed c = search needs
-
-listed-requires : tie.Need-listed-requires
-listed-requires c κs = search needs
+reported-requires : tie.Need-reported-requires
+reported-requires c κs = search needs
 
 same-length : tie.Need-same-length
 same-length c = search needs
@@ -35,8 +32,7 @@ same-length-2 c = search needs
 returns-2 : tie.Need-returns-2
 unfolding reportText
 returns-2 c =
-    put-case (λ a. reportText a (c .before .before .before .before .before .before .before .before .before .before .args .list .now))
-    (c .before .before .before .before .before .before .a2 .given .1) (c .before .before .listed .ensures)
+    put-case (λ a. reportText a (c .before .before .before .before .before .before .before .before .before .args .list .now)) (c .before .before .before .before .before .a2 .given .1) (c .before .before .reported .ensures)
 
 pub report-spec : {M : Type 1} → statement M
 report-spec =
@@ -45,8 +41,7 @@ report-spec =
     enum-known-a
     refused-requires
     enum-known-a-2
-    slice-aggregate-listed
-    listed-requires
+    reported-requires
     same-length
     returns
     same-length-2

@@ -1,8 +1,8 @@
 -- A success, a failure. Assumes nothing.
-use Rattle.settling.proofs.HealthCases.{stepped-success, stepped-failure}
+use Rattle.window.proofs.Cases.{report-success, report-failure}
 use borrow.Author.Needs.{needs}
-use Rattle.settling.proofs.step.Statement.{statement}
-use Rattle.settling.proofs.step.Tie as tie
+use Rattle.window.proofs.after_report.Statement.{statement}
+use Rattle.window.proofs.after_report.Tie as tie
 
 enum-told : tie.Need-enum-told
 enum-told c = search needs
@@ -17,13 +17,13 @@ after-failure-requires : tie.Need-after-failure-requires
 after-failure-requires c κs = search needs
 
 returns : tie.Need-returns
-returns c = stepped-success _ _ _ _ _ _ (c .before .enum-told .given .1) (c .after-success .ensures)
+returns c = report-success _ _ _ _ _ _ (c .before .enum-told .given .1) (c .after-success .ensures)
 
 returns-2 : tie.Need-returns-2
-returns-2 c = stepped-failure _ _ _ _ _ _ (c .before .enum-told2 .given .1) (c .after-failure .ensures)
+returns-2 c = report-failure _ _ _ _ _ _ (c .before .enum-told2 .given .1) (c .after-failure .ensures)
 
-pub step-spec : {M : Type 1} → statement M
-step-spec =
+pub after-report-spec : {M : Type 1} → statement M
+after-report-spec =
     tie.close
     (tie.spec
     enum-told

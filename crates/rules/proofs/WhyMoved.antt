@@ -1,0 +1,101 @@
+-- A7: a report tells each case exactly when it is right; the five cover every accepted report, and no two hold at once.
+use Prim.Native.Nat.{ℕ, zero, suc, _<_}
+use mathlib.Core.Path.{_≡_, refl, sym, _∙_, ap, subst}
+use mathlib.Core.Bool.{true, false}
+use mathlib.Core.List.{List}
+use native.Mathlib.Omega.{arith}
+use lib.Dec.{ltb}
+use borrow.Author.Tests.{lt-ltb, le-ltb, ltb-true, ltb-false}
+use Rattle.laws.specs.Bools.{if_then_else_}
+use Rattle.laws.proofs.Bools.{if-cases}
+use Rattle.rules.specs.declared.Sums.{Sums}
+use Rattle.rules.specs.declared.Health.{Health}
+use Rattle.rules.specs.declared.Health.the-variants.{Live, Dead}
+use Rattle.rules.specs.declared.State.{State}
+use Rattle.rules.specs.declared.Outcome.{Outcome}
+use Rattle.rules.specs.declared.Outcome.the-variants.{Success, Failure}
+use Rattle.rules.specs.declared.Move.{Move}
+use Rattle.rules.specs.State.{at, healthOf, destinationOf}
+use Rattle.rules.specs.Windows.{windowMoved, liveMoved, deadMoved, moved, moveNumber, woken}
+use Rattle.rules.specs.Refusals.{reportRefusal}
+use Rattle.rules.specs.Calls.{reportReply}
+use Rattle.rules.specs.WhyMoved.{When, Told, WhyMoved}
+use Rattle.rules.proofs.ReportedFacts.{report-health, report-moved}
+
+-- What a step tells is right.
+
+module _ (outcome : Outcome) (u v : Sums) where
+  window-right : When (windowMoved (u .window) (v .window)) outcome (Live u) (Live v)
+  unfolding windowMoved
+  window-right =
+      if-cases (λ m. When m outcome (Live u) (Live v)) (ltb (u .window) (v .window)) (λ t. (u, v, refl, refl, ltb-true (u .window) (v .window) t))
+      (λ f. if-cases (λ m. When m outcome (Live u) (Live v)) (ltb (v .window) (u .window)) (λ t. (u, v, refl, refl, ltb-true (v .window) (u .window) t))
+      (λ g. (
+        (λ r. let a : u ≡ r .0 = cc in let b : v ≡ r .1 = cc in omega (arith, ltb-false (u .window) (v .window) f, ap (λ x. x .window) a, ap (λ x. x .window) b, r .4)),
+        (λ r. let a : u ≡ r .0 = cc in let b : v ≡ r .1 = cc in omega (arith, ltb-false (v .window) (u .window) g, ap (λ x. x .window) a, ap (λ x. x .window) b, r .4)),
+        (λ r. let z : _≡_ {A = ℕ} 0 1 = cc in omega arith),
+        (λ r. let z : _≡_ {A = ℕ} 0 1 = cc in omega arith),
+      )))
+
+right : (outcome : Outcome) (found left : Health) → When (moved outcome found left) outcome found left
+unfolding moved liveMoved deadMoved
+right outcome (Live u) (Live v) = window-right outcome u v
+right outcome (Live u) (Dead end) = (u, end, refl, refl)
+right Success (Dead end) left = (end, refl, refl)
+right Failure (Dead end) left = (
+  (λ r. let z : _≡_ {A = ℕ} 0 1 = cc in omega arith),
+  (λ r. let z : _≡_ {A = ℕ} 0 1 = cc in omega arith),
+  (λ r. let z : _≡_ {A = ℕ} 0 1 = cc in omega arith),
+  (λ r. let z : _≡_ {A = ℕ} 0 1 = cc in omega arith),
+)
+
+-- And nothing else is.
+
+module _ (outcome : Outcome) (found left : Health) where
+  all-else : (m : Move) → When m outcome found left → When Move.Unchanged outcome found left → m ≡ Move.Unchanged
+  all-else Move.Unchanged w n = refl
+  all-else Move.Raised w n = absurd (n .0 w)
+  all-else Move.Lowered w n = absurd (n .1 w)
+  all-else Move.Dead w n = absurd (n .2 w)
+  all-else Move.Revived w n = absurd (n .3 w)
+
+  only : (m : Move) → When m outcome found left → moved outcome found left ≡ m
+  unfolding moved liveMoved deadMoved windowMoved if_then_else_
+  only Move.Unchanged w = all-else (moved outcome found left) (right outcome found left) w
+  only Move.Raised w = rw (w .2, w .3, lt-ltb (w .0 .window) (w .1 .window) (w .4))
+  only Move.Lowered w = rw (w .2, w .3, le-ltb (w .0 .window) (w .1 .window) (omega (arith, w .4)), lt-ltb (w .1 .window) (w .0 .window) (w .4))
+  only Move.Dead w = rw (w .2, w .3)
+  only Move.Revived w = rw (w .1, w .2)
+
+-- A case by its number.
+
+unfoldable caseOf : ℕ → Move
+caseOf zero = Move.Unchanged
+caseOf (suc zero) = Move.Raised
+caseOf (suc (suc zero)) = Move.Lowered
+caseOf (suc (suc (suc zero))) = Move.Dead
+caseOf (suc (suc (suc (suc k)))) = Move.Revived
+
+case-number : (m : Move) → caseOf (moveNumber m) ≡ m
+unfolding caseOf moveNumber
+case-number Move.Unchanged = refl
+case-number Move.Raised = refl
+case-number Move.Lowered = refl
+case-number Move.Dead = refl
+case-number Move.Revived = refl
+
+-- The whole report.
+
+told-of : (outcome : Outcome) (found left : Health) (values : List ℕ) → at values 1 ≡ moveNumber (moved outcome found left) → Told outcome found left values
+told-of outcome found left values e =
+    record {
+      tells = λ m n. subst (λ k. When k outcome found left) (sym (case-number (moved outcome found left)) ∙ ap caseOf (sym e ∙ n) ∙ case-number m) (right outcome found left);
+      told = λ m w. e ∙ ap moveNumber (only outcome found left m w);
+      covered = (moved outcome found left, right outcome found left);
+      once = λ m k w x. sym (only outcome found left m w) ∙ only outcome found left k x;
+    }
+
+pub why-moved : WhyMoved
+why-moved s now e ticket outcome list accept =
+    told-of outcome (healthOf (woken s now) (destinationOf s e)) (healthOf (reportReply s now e ticket outcome list .state) (destinationOf s e)) _
+    (report-moved s now e ticket outcome list accept ∙ ap (λ h. moveNumber (moved outcome (healthOf (woken s now) (destinationOf s e)) h)) (sym (report-health s now e ticket outcome list accept)))
