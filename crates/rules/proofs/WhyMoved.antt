@@ -1,12 +1,10 @@
 -- A7: a report tells each case exactly when it is right; the five cover every accepted report, and no two hold at once.
 use Prim.Native.Nat.{ℕ, zero, suc, _<_}
 use mathlib.Core.Path.{_≡_, refl, sym, _∙_, ap, subst}
-use mathlib.Core.Bool.{true, false}
 use mathlib.Core.List.{List}
 use native.Mathlib.Omega.{arith}
 use lib.Dec.{ltb}
-use borrow.Author.Tests.{lt-ltb, le-ltb, ltb-true, ltb-false}
-use Rattle.laws.specs.Bools.{if_then_else_}
+use borrow.Author.Tests.{ltb-true, ltb-false}
 use Rattle.laws.proofs.Bools.{if-cases}
 use Rattle.rules.specs.declared.Sums.{Sums}
 use Rattle.rules.specs.declared.Health.{Health}
@@ -22,20 +20,30 @@ use Rattle.rules.specs.Calls.{reportReply}
 use Rattle.rules.specs.WhyMoved.{When, Told, WhyMoved}
 use Rattle.rules.proofs.ReportedFacts.{report-health, report-moved}
 
+-- Two windows: the first is less, greater, or the same.
+window-cases :
+    (P : Move → Type 0) (found left : ℕ)
+    → (found < left → P Move.Raised)
+    → (left < found → P Move.Lowered)
+    → (found ≡ left → P Move.Unchanged)
+    → P (windowMoved found left)
+unfolding windowMoved
+window-cases P found left less more same =
+    if-cases P (ltb found left) (λ t. less (ltb-true found left t))
+    (λ f. if-cases P (ltb left found) (λ t. more (ltb-true left found t)) (λ g. same (omega (arith, ltb-false found left f, ltb-false left found g))))
+
 -- What a step tells is right.
 
 module _ (outcome : Outcome) (u v : Sums) where
   window-right : When (windowMoved (u .window) (v .window)) outcome (Live u) (Live v)
-  unfolding windowMoved
   window-right =
-      if-cases (λ m. When m outcome (Live u) (Live v)) (ltb (u .window) (v .window)) (λ t. (u, v, refl, refl, ltb-true (u .window) (v .window) t))
-      (λ f. if-cases (λ m. When m outcome (Live u) (Live v)) (ltb (v .window) (u .window)) (λ t. (u, v, refl, refl, ltb-true (v .window) (u .window) t))
-      (λ g. (
-        (λ r. let a : u ≡ r .0 = cc in let b : v ≡ r .1 = cc in omega (arith, ltb-false (u .window) (v .window) f, ap (λ x. x .window) a, ap (λ x. x .window) b, r .4)),
-        (λ r. let a : u ≡ r .0 = cc in let b : v ≡ r .1 = cc in omega (arith, ltb-false (v .window) (u .window) g, ap (λ x. x .window) a, ap (λ x. x .window) b, r .4)),
+      window-cases (λ m. When m outcome (Live u) (Live v)) (u .window) (v .window) (λ l. (u, v, refl, refl, l)) (λ l. (u, v, refl, refl, l))
+      (λ e. (
+        (λ r. let a : u ≡ r .0 = cc in let b : v ≡ r .1 = cc in omega (arith, ap (λ x. x .window) a, ap (λ x. x .window) b, r .4)),
+        (λ r. let a : u ≡ r .0 = cc in let b : v ≡ r .1 = cc in omega (arith, ap (λ x. x .window) a, ap (λ x. x .window) b, r .4)),
         (λ r. let z : _≡_ {A = ℕ} 0 1 = cc in omega arith),
         (λ r. let z : _≡_ {A = ℕ} 0 1 = cc in omega arith),
-      )))
+      ))
 
 right : (outcome : Outcome) (found left : Health) → When (moved outcome found left) outcome found left
 unfolding moved liveMoved deadMoved
@@ -60,10 +68,12 @@ module _ (outcome : Outcome) (found left : Health) where
   all-else Move.Revived w n = absurd (n .3 w)
 
   only : (m : Move) → When m outcome found left → moved outcome found left ≡ m
-  unfolding moved liveMoved deadMoved windowMoved if_then_else_
+  unfolding moved liveMoved deadMoved
   only Move.Unchanged w = all-else (moved outcome found left) (right outcome found left) w
-  only Move.Raised w = rw (w .2, w .3, lt-ltb (w .0 .window) (w .1 .window) (w .4))
-  only Move.Lowered w = rw (w .2, w .3, le-ltb (w .0 .window) (w .1 .window) (omega (arith, w .4)), lt-ltb (w .1 .window) (w .0 .window) (w .4))
+  only Move.Raised w =
+      rw (w .2, w .3) (window-cases (λ m. m ≡ Move.Raised) (w .0 .window) (w .1 .window) (λ l. refl) (λ l. absurd (omega (arith, w .4))) (λ e. absurd (omega (arith, w .4))))
+  only Move.Lowered w =
+      rw (w .2, w .3) (window-cases (λ m. m ≡ Move.Lowered) (w .0 .window) (w .1 .window) (λ l. absurd (omega (arith, w .4))) (λ l. refl) (λ e. absurd (omega (arith, w .4))))
   only Move.Dead w = rw (w .2, w .3)
   only Move.Revived w = rw (w .1, w .2)
 
