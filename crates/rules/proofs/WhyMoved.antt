@@ -9,13 +9,11 @@ use Rattle.laws.proofs.Bools.{if-cases}
 use Rattle.rules.specs.declared.Sums.{Sums}
 use Rattle.rules.specs.declared.Health.{Health}
 use Rattle.rules.specs.declared.Health.the-variants.{Live, Dead}
-use Rattle.rules.specs.declared.State.{State}
 use Rattle.rules.specs.declared.Outcome.{Outcome}
 use Rattle.rules.specs.declared.Outcome.the-variants.{Success, Failure}
 use Rattle.rules.specs.declared.Move.{Move}
-use Rattle.rules.specs.State.{at, healthOf, destinationOf}
+use Rattle.rules.specs.State.{at, healthOf, windowOf, destinationOf}
 use Rattle.rules.specs.Windows.{windowMoved, liveMoved, deadMoved, moved, moveNumber, woken}
-use Rattle.rules.specs.Refusals.{reportRefusal}
 use Rattle.rules.specs.Calls.{reportReply}
 use Rattle.rules.specs.WhyMoved.{When, Told, WhyMoved}
 use Rattle.rules.proofs.ReportedFacts.{report-health, report-moved}
@@ -34,16 +32,19 @@ window-cases P found left less more same =
 
 -- What a step tells is right.
 
-module _ (outcome : Outcome) (u v : Sums) where
-  window-right : When (windowMoved (u .window) (v .window)) outcome (Live u) (Live v)
-  window-right =
-      window-cases (λ m. When m outcome (Live u) (Live v)) (u .window) (v .window) (λ l. (u, v, refl, refl, l)) (λ l. (u, v, refl, refl, l))
-      (λ e. (
-        (λ r. let a : u ≡ r .0 = cc in let b : v ≡ r .1 = cc in omega (arith, ap (λ x. x .window) a, ap (λ x. x .window) b, r .4)),
-        (λ r. let a : u ≡ r .0 = cc in let b : v ≡ r .1 = cc in omega (arith, ap (λ x. x .window) a, ap (λ x. x .window) b, r .4)),
-        (λ r. let z : _≡_ {A = ℕ} 0 1 = cc in omega arith),
-        (λ r. let z : _≡_ {A = ℕ} 0 1 = cc in omega arith),
-      ))
+live-dead : (u : Sums) (end : ℕ) → Live u ≡ Dead end → ⊥
+live-dead u end e = let z : _≡_ {A = ℕ} 0 1 = cc in omega arith
+
+window-right : (outcome : Outcome) (u v : Sums) → When (windowMoved (u .window) (v .window)) outcome (Live u) (Live v)
+unfolding windowOf
+window-right outcome u v =
+    window-cases (λ m. When m outcome (Live u) (Live v)) (u .window) (v .window) (λ l. (u, v, refl, refl, l)) (λ l. (u, v, refl, refl, l))
+    (λ e. (
+      (λ w. omega (arith, ap windowOf (w .2), ap windowOf (w .3), w .4)),
+      (λ w. omega (arith, ap windowOf (w .2), ap windowOf (w .3), w .4)),
+      (λ w. live-dead v (w .1) (w .3)),
+      (λ w. live-dead u (w .0) (w .2)),
+    ))
 
 right : (outcome : Outcome) (found left : Health) → When (moved outcome found left) outcome found left
 unfolding moved liveMoved deadMoved
@@ -51,10 +52,10 @@ right outcome (Live u) (Live v) = window-right outcome u v
 right outcome (Live u) (Dead end) = (u, end, refl, refl)
 right Success (Dead end) left = (end, refl, refl)
 right Failure (Dead end) left = (
-  (λ r. let z : _≡_ {A = ℕ} 0 1 = cc in omega arith),
-  (λ r. let z : _≡_ {A = ℕ} 0 1 = cc in omega arith),
-  (λ r. let z : _≡_ {A = ℕ} 0 1 = cc in omega arith),
-  (λ r. let z : _≡_ {A = ℕ} 0 1 = cc in omega arith),
+  (λ w. live-dead (w .0) end (sym (w .2))),
+  (λ w. live-dead (w .0) end (sym (w .2))),
+  (λ w. live-dead (w .0) end (sym (w .2))),
+  (λ w. let z : _≡_ {A = ℕ} 0 1 = cc in omega arith),
 )
 
 -- And nothing else is.

@@ -112,7 +112,8 @@ pub enum Outcome {
     Failure,
 }
 
-// Why a destination's number moved in the step of a report. Which case it is, and each case's number: specs/Windows.antt.
+// Why a destination's number moved in the step of a report. Which case it is, and each case's number: specs/Windows.antt. The words stand in
+// lines/specs/Names.antt.
 pub enum Move {
     Unchanged,
     Raised,
