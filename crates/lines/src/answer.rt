@@ -108,6 +108,7 @@ fn taken(out: &mut [u8], job: u8, putoff: u16, list: &[u16]) -> usize
     put_byte(out, at, 10)
 }
 
+// All were put off: how many, and so many places of the list.
 fn put_off(out: &mut [u8], putoff: u16, list: &[u16]) -> usize
     ensures { λ r. ⌜ Put (nojobName ++ counted putoff (now (list .entry)) ++ lineEnd) (now (out .entry)) 0 (now (out .exit)) r ⌝ }
 {

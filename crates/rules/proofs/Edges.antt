@@ -33,10 +33,9 @@ use Rattle.rules.specs.Tallies.{row}
 use Rattle.rules.proofs.Roots.{root-is}
 use Rattle.rules.proofs.Opened.{ranges, sequences, setups, windows, soundness, reports, tallies, runs, shows}
 
--- The ranges that requests have moved: everything else at its least.
-
-abbrev ends : ℕ → ℕ → ℕ → Feedback → Feedback → Settings
-ends agents limit initial positive negative =
+-- Settings with these, everything else at its least.
+abbrev settings : ℕ → ℕ → ℕ → Feedback → Feedback → ℕ → Settings
+settings agents limit initial positive negative cohortlimit =
     record {
       agents = agents;
       cost = 0;
@@ -47,9 +46,14 @@ ends agents limit initial positive negative =
       initial = initial;
       positive = positive;
       negative = negative;
-      cohortlimit = 1;
+      cohortlimit = cohortlimit;
       suspension = 1;
     }
+
+-- The ranges that requests have moved.
+
+abbrev ends : ℕ → ℕ → ℕ → Feedback → Feedback → Settings
+ends agents limit initial positive negative = settings agents limit initial positive negative 1
 
 -- "the range .. becomes 1-100" for positive feedback, "Negative 0 stays legal" (A4)
 pub percent-edge :
@@ -131,20 +135,7 @@ first-failure-kills g now u one small = rw (one, small, le-leb U (u .cohorts + U
 -- Why the number moved (A7): 100% flat both ways, window limit 20, initial window 5, and this cohort limit.
 
 abbrev steep : ℕ → Settings
-steep cohortlimit =
-    record {
-      agents = 1;
-      cost = 0;
-      loan = 0;
-      discount = 0;
-      minimum = 0;
-      limit = 20;
-      initial = 5;
-      positive = flat 100;
-      negative = flat 100;
-      cohortlimit = cohortlimit;
-      suspension = 300;
-    }
+steep cohortlimit = settings 1 20 5 (flat 100) (flat 100) cohortlimit
 
 -- at second 300, this one busy alone
 abbrev told : ℕ → Outcome → Health → Move

@@ -12,11 +12,12 @@ use Rattle.laws.proofs.ChosenTimes.{times-chosen}
 use Rattle.laws.proofs.Table.{length-table}
 use Rattle.rules.specs.declared.Health.{Health}
 use Rattle.rules.specs.declared.Outcome.{Outcome}
+use Rattle.rules.specs.declared.StepAnswer.{StepAnswer}
 use Rattle.rules.specs.declared.State.{State}
 use Rattle.rules.specs.Sizes.{maxTransports, maxDestinations, maxEntries}
 use Rattle.rules.specs.State.{at, settingsFor, healthOf, transportOf, queueOf, isBusy, isPresent, jobOf, destinationOf, waitsOf, waitingOf, parentOf}
 use Rattle.rules.specs.SoundFacts.{Sound, SoundBesides}
-use Rattle.rules.specs.Windows.{afterReport, moved, moveNumber, wokenAt, woken}
+use Rattle.rules.specs.Windows.{moveNumber, stepped, wokenAt, woken}
 use Rattle.rules.specs.Reporting.{reportedStep, isDeath, isPutOff, putOffEntries, putOffOf, settled, stays, nearestStaying, departed, reportedAt, reporting}
 use Rattle.rules.specs.Refusals.{reportRefusal}
 use Rattle.rules.specs.Calls.{report, reportingReply, reportReply}
@@ -105,7 +106,13 @@ module _ (w : State) (now e : ℕ) (outcome : Outcome) where
   unfolding reporting reportedAt departed
   reported-health-other = settled-health-other w e (healthBy w now e outcome) (diedBy w now e outcome)
 
--- after an accepted report, in the terms of the state before it: the reported one has taken its step after waking, the others have woken
+-- After an accepted report, in the terms of the state before it: the reported one has taken its step after waking, the others have woken.
+
+abbrev pub stepOf : State → ℕ → ℕ → Outcome → StepAnswer
+stepOf s now e outcome =
+    let d = destinationOf s e in
+    stepped (settingsFor s d) (at (s .busy .destination) d) now outcome (healthOf (woken s now) d)
+
 module _ (s : State) (now e ticket : ℕ) (outcome : Outcome) (list : List ℕ) (accept : reportRefusal s now e ticket list ≡ 0) where
   reported-inside : destinationOf s e < s .setup .destinations
   reported-inside =
@@ -119,8 +126,7 @@ module _ (s : State) (now e ticket : ℕ) (outcome : Outcome) (list : List ℕ) 
   unfolding reportingReply woken
   given-back = ap (λ x. x .state) given
 
-  pub report-health : healthOf (reportReply s now e ticket outcome list .state) (destinationOf s e)
-      ≡ afterReport (settingsFor s (destinationOf s e)) (at (s .busy .destination) (destinationOf s e)) now outcome (healthOf (woken s now) (destinationOf s e))
+  pub report-health : healthOf (reportReply s now e ticket outcome list .state) (destinationOf s e) ≡ stepOf s now e outcome .health
   unfolding woken
   report-health =
       ap (λ x. healthOf x (destinationOf s e)) given-back
@@ -128,10 +134,13 @@ module _ (s : State) (now e ticket : ℕ) (outcome : Outcome) (list : List ℕ) 
       (rw (length-table (wokenAt (s .destinations) (s .setup) now) maxDestinations)
       (omega (arith, reported-inside, sound-facts s (report-accepted s now e ticket list accept .whole) .setup .destinations .1)))
 
-  -- and its second value tells why its number moved
-  pub report-moved : at (reportReply s now e ticket outcome list .says .values) 1
-      ≡ moveNumber (moved outcome (healthOf (woken s now) (destinationOf s e))
-      (afterReport (settingsFor s (destinationOf s e)) (at (s .busy .destination) (destinationOf s e)) now outcome (healthOf (woken s now) (destinationOf s e))))
+  -- its first value is how many were put off, its second tells why the number moved
+  pub report-count : at (reportReply s now e ticket outcome list .says .values) 0
+      ≡ length (putOffEntries (woken s now) (isDeath (stepOf s now e outcome .moved)) (destinationOf s e))
+  unfolding reportingReply reporting reportedAt woken
+  report-count = ap (λ x. at (x .says .values) 0) given
+
+  pub report-moved : at (reportReply s now e ticket outcome list .says .values) 1 ≡ moveNumber (stepOf s now e outcome .moved)
   unfolding reportingReply reporting reportedAt woken
   report-moved = ap (λ x. at (x .says .values) 1) given
 

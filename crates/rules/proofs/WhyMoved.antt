@@ -1,22 +1,27 @@
 -- A7: a report tells each case exactly when it is right; the five cover every accepted report, and no two hold at once.
 use Prim.Native.Nat.{ℕ, zero, suc, _<_}
 use mathlib.Core.Path.{_≡_, refl, sym, _∙_, ap, subst}
-use mathlib.Core.List.{List}
+use mathlib.Core.Bool.{Bool, false}
 use native.Mathlib.Omega.{arith}
+use lib.ListN.{length}
 use lib.Dec.{ltb}
 use borrow.Author.Tests.{ltb-true, ltb-false}
 use Rattle.laws.proofs.Bools.{if-cases}
+use Rattle.laws.proofs.First.{chosen-none}
 use Rattle.rules.specs.declared.Sums.{Sums}
 use Rattle.rules.specs.declared.Health.{Health}
 use Rattle.rules.specs.declared.Health.the-variants.{Live, Dead}
+use Rattle.rules.specs.declared.State.{State}
 use Rattle.rules.specs.declared.Outcome.{Outcome}
 use Rattle.rules.specs.declared.Outcome.the-variants.{Success, Failure}
 use Rattle.rules.specs.declared.Move.{Move}
+use Rattle.rules.specs.Sizes.{maxEntries}
 use Rattle.rules.specs.State.{at, healthOf, windowOf, destinationOf}
 use Rattle.rules.specs.Windows.{windowMoved, liveMoved, deadMoved, moved, moveNumber, woken}
+use Rattle.rules.specs.Reporting.{isDeath, isPutOff, putOffEntries}
 use Rattle.rules.specs.Calls.{reportReply}
-use Rattle.rules.specs.WhyMoved.{When, Told, WhyMoved}
-use Rattle.rules.proofs.ReportedFacts.{report-health, report-moved}
+use Rattle.rules.specs.WhyMoved.{Died, When, WhyMoved}
+use Rattle.rules.proofs.ReportedFacts.{stepOf, report-health, report-count, report-moved}
 
 -- Two windows: the first is less, greater, or the same.
 window-cases :
@@ -95,18 +100,49 @@ case-number Move.Lowered = refl
 case-number Move.Dead = refl
 case-number Move.Revived = refl
 
--- The whole report.
+-- Nothing is put off where it did not die.
 
-told-of : (outcome : Outcome) (found left : Health) (values : List ℕ) → at values 1 ≡ moveNumber (moved outcome found left) → Told outcome found left values
-told-of outcome found left values e =
-    record {
-      tells = λ m n. subst (λ k. When k outcome found left) (sym (case-number (moved outcome found left)) ∙ ap caseOf (sym e ∙ n) ∙ case-number m) (right outcome found left);
-      told = λ m w. e ∙ ap moveNumber (only outcome found left m w);
-      covered = (moved outcome found left, right outcome found left);
-      once = λ m k w x. sym (only outcome found left m w) ∙ only outcome found left k x;
-    }
+spared : (outcome : Outcome) (found left : Health) (m : Move) → When m outcome found left → (Died found left → ⊥) → isDeath m ≡ false
+unfolding isDeath
+spared outcome found left Move.Unchanged w n = refl
+spared outcome found left Move.Raised w n = refl
+spared outcome found left Move.Lowered w n = refl
+spared outcome found left Move.Dead w n = absurd (n w)
+spared outcome found left Move.Revived w n = refl
+
+none-put-off : (s : State) (died : Bool) (d : ℕ) → died ≡ false → length (putOffEntries s died d) ≡ 0
+unfolding putOffEntries isPutOff
+none-put-off s died d e = rw e (ap length (chosen-none maxEntries))
+
+-- The whole report.
 
 pub why-moved : WhyMoved
 why-moved s now e ticket outcome list accept =
-    told-of outcome (healthOf (woken s now) (destinationOf s e)) (healthOf (reportReply s now e ticket outcome list .state) (destinationOf s e)) _
-    (report-moved s now e ticket outcome list accept ∙ ap (λ h. moveNumber (moved outcome (healthOf (woken s now) (destinationOf s e)) h)) (sym (report-health s now e ticket outcome list accept)))
+    record {
+      tells = λ m n. subst (λ k. When k outcome found left) (sym (case-number told) ∙ ap caseOf (sym says ∙ n) ∙ case-number m) is-right;
+      told = λ m w. says ∙ ap moveNumber (only outcome found left m w);
+      covered = (told, is-right);
+      once = λ m k w x. sym (only outcome found left m w) ∙ only outcome found left k x;
+      kept =
+          λ n.
+          report-count s now e ticket outcome list accept
+          ∙ none-put-off (woken s now) _ (destinationOf s e) (ap (λ h. isDeath (moved outcome found h)) (sym health) ∙ spared outcome found left told is-right n);
+    }
+  where
+    found : Health
+    found = healthOf (woken s now) (destinationOf s e)
+
+    left : Health
+    left = healthOf (reportReply s now e ticket outcome list .state) (destinationOf s e)
+
+    told : Move
+    told = moved outcome found left
+
+    is-right : When told outcome found left
+    is-right = right outcome found left
+
+    health : left ≡ stepOf s now e outcome .health
+    health = report-health s now e ticket outcome list accept
+
+    says : at (reportReply s now e ticket outcome list .says .values) 1 ≡ moveNumber told
+    says = report-moved s now e ticket outcome list accept ∙ ap (λ h. moveNumber (moved outcome found h)) (sym health)

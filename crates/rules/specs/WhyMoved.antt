@@ -49,6 +49,8 @@ pub record Told (outcome : Outcome) (found left : Health) (values : List ℕ) : 
   pub covered : (m : Move) × When m outcome found left
   -- and no two are
   pub once : (m k : Move) → When m outcome found left → When k outcome found left → m ≡ k
+  -- nothing is put off unless it died
+  pub kept : (Died found left → ⊥) → at values 0 ≡ 0
 
 -- of every accepted report, of any state: the step finds the destination as waking left it
 abbrev pub WhyMoved : Type 0

@@ -1,6 +1,7 @@
 -- One law for each case of a step's rule, as the code reaches it.
 use Prim.Native.Nat.{ℕ, _+_, _-_, _≤_, _<_, min, max}
 use mathlib.Core.Path.{_≡_, refl}
+use native.Mathlib.Omega.{arith}
 use borrow.Author.Tests.{lt-ltb, le-ltb, le-leb, lt-leb}
 use Rattle.laws.specs.Bools.{if_then_else_}
 use Rattle.rules.specs.declared.Settings.{Settings}
@@ -92,9 +93,9 @@ module _ (found left : ℕ) where
   unfolding windowMoved if_then_else_
   window-raised l = rw (lt-ltb found left l)
 
-  pub window-lowered : left ≤ found → left < found → Move.Lowered ≡ windowMoved found left
+  pub window-lowered : left < found → Move.Lowered ≡ windowMoved found left
   unfolding windowMoved if_then_else_
-  window-lowered g l = rw (le-ltb found left g, lt-ltb left found l)
+  window-lowered l = rw (le-ltb found left (omega arith), lt-ltb left found l)
 
   pub window-unchanged : left ≤ found → found ≤ left → Move.Unchanged ≡ windowMoved found left
   unfolding windowMoved if_then_else_

@@ -7,7 +7,7 @@ returns : tie.Need-returns
 returns c = window-raised _ _ (c .if1 .taken)
 
 returns-2 : tie.Need-returns-2
-returns-2 c = window-lowered _ _ (c .before .if1 .left) (c .if2 .taken)
+returns-2 c = window-lowered _ _ (c .if2 .taken)
 
 returns-3 : tie.Need-returns-3
 returns-3 c = window-unchanged _ _ (c .before .if1 .left) (c .if2 .left)
