@@ -62,9 +62,6 @@ owned-is z (negsuc n) e h = absurd (subst (λ b. T (cond b false true)) h tt)
 
 -- sizes
 
-pub fraction-fits : (a m : ℕ) → a ≤ 4294967296 → m < 65536 → Fits w64 (a * m)
-fraction-fits a m ha hm = record { fits = lt-of-le-of-lt (mul-le-mul ha (le-of-lt hm)) (lit< tt) }
-
 pub price-fits : (m d : ℕ) → m < 65536 → Fits w64 (m * (100 - d))
 price-fits m d hm = record { fits = lt-of-le-of-lt (mul-le-mul (le-of-lt hm) (sub-le 100 d)) (lit< tt) }
 
@@ -75,32 +72,15 @@ worth-fits a c l ha hl =
       record { fits = small-fits (100 * (a / c + l)) (omega (arith, q)) },
     )
 
--- the two fractions, read at the places of x and of b
-pub fractions : (arrival waits : List ℕ) (time x b i k ax ab mx mb : ℕ) → i ≡ x → k ≡ b → ax ≡ at arrival i → ab ≡ at arrival k → mx ≡ at waits i → mb ≡ at waits k
-    → ltb ((time - ab + 1) * mx) ((time - ax + 1) * mb) ≡ ltb ((time - at arrival b + 1) * at waits x) ((time - at arrival x + 1) * at waits b)
-fractions arrival waits time x b i k ax ab mx mb p q r s u v = cc
-
 pub link-suc : (k : ℕ) → (k ≡ 0 → ⊥) → k ≡ suc (k - 1)
 link-suc zero ne = absurd (ne refl)
 link-suc (suc x) ne = omega arith
 
 -- plain steps, so that a proof does not search its whole record for them
 
-pub index-fits : (i k : ℕ) → i < 256 → k ≤ 256 → Fits w64 (i * k)
-index-fits i k l m = record { fits = lt-of-le-of-lt (mul-le-mul (le-of-lt l) m) (lit< tt) }
-
-pub same-below : (i j n : ℕ) → i ≡ j → j < n → i < n
-same-below i j n e l = subst (λ x. x < n) (sym e) l
-
 pub positive : (k : ℕ) → (k ≡ 0 → ⊥) → 1 ≤ k
 positive zero ne = absurd (ne refl)
 positive (suc x) ne = omega arith
-
-pub age-fits : (time a : ℕ) → time ≤ 4294967295 → Fits w64 (time - a + 1) × (time - a + 1 ≤ 4294967296)
-age-fits time a l = (record { fits = lt-of-le-of-lt (age time a l) (lit< tt) }, age time a l)
-  where
-    age : (t b : ℕ) → t ≤ 4294967295 → t - b + 1 ≤ 4294967296
-    age t b m = omega arith
 
 pub sum-fits : (m a : ℕ) → m < 65536 → a ≤ 65536 → Fits w64 (m + a)
 sum-fits m a l k = record { fits = small-fits (m + a) (omega arith) }

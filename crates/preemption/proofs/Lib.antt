@@ -1,3 +1,2 @@
 pub mod Credits
-pub mod Bests
 pub mod Preempts

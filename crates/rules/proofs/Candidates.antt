@@ -16,9 +16,9 @@ use Rattle.laws.proofs.Table.{fold-keeps}
 use Rattle.laws.proofs.Fractions.{fraction-less}
 use Rattle.laws.proofs.Joined.{and-6}
 use Rattle.rules.specs.declared.State.{State}
-use Rattle.rules.specs.State.{at, listOf, hasPreempted, waitingOf}
+use Rattle.rules.specs.State.{at, listOf, arrivedAt, hasPreempted, waitingOf}
 use Rattle.rules.specs.Picking.{hasEligible}
-use Rattle.rules.specs.Preemption.{canPayFor, isCandidate, beats, better, bestCandidate}
+use Rattle.rules.specs.Preemption.{canPayFor, isCandidate, ageOf, beats, better, bestBefore, bestCandidate}
 use Rattle.rules.proofs.EntryFacts.{has-eligible-waits}
 
 pub record Candidate (s : State) (t y x : ℕ) : Type 0 where
@@ -49,46 +49,36 @@ candidate-waits s t y x h = has-eligible-waits s x (candidate-facts s t y x h .e
 beats-less : (s : State) (now k b x : ℕ) → 1 ≤ waitingOf s k → beats s now k b ≡ false → beats s now x b ≡ true → beats s now x k ≡ true
 unfolding beats
 beats-less s now k b x one f t =
-    lt-ltb (age k * waitingOf s x) (age x * waitingOf s k)
-    (fraction-less (age k) (age b) (age x) (waitingOf s k) (waitingOf s b) (waitingOf s x) one
-    (ltb-false (age b * waitingOf s k) (age k * waitingOf s b) f)
-    (ltb-true (age b * waitingOf s x) (age x * waitingOf s b) t))
-  where
-    age : ℕ → ℕ
-    age j = now - at (s .jobs .arrival) j + 1
+    lt-ltb (ageOf s now k * waitingOf s x) (ageOf s now x * waitingOf s k)
+    (fraction-less (ageOf s now k) (ageOf s now b) (ageOf s now x) (waitingOf s k) (waitingOf s b) (waitingOf s x) one
+    (ltb-false (ageOf s now b * waitingOf s k) (ageOf s now k * waitingOf s b) f)
+    (ltb-true (ageOf s now b * waitingOf s x) (ageOf s now x * waitingOf s b) t))
 
 beats-not : (s : State) (now x k : ℕ) → beats s now x k ≡ true → beats s now k x ≡ false
 unfolding beats
 beats-not s now x k t =
-    le-ltb (age x * waitingOf s k) (age k * waitingOf s x) (le-of-lt (ltb-true (age k * waitingOf s x) (age x * waitingOf s k) t))
-  where
-    age : ℕ → ℕ
-    age j = now - at (s .jobs .arrival) j + 1
+    le-ltb (ageOf s now x * waitingOf s k) (ageOf s now k * waitingOf s x) (le-of-lt (ltb-true (ageOf s now k * waitingOf s x) (ageOf s now x * waitingOf s k) t))
 
 -- x is the best among the first n ranks
 pub record Best (s : State) (now t y n x : ℕ) : Type 0 where
   pub rank : ℕ
   pub below : rank < n
-  pub stands : at (listOf (s .arrivals)) rank ≡ x
+  pub stands : arrivedAt s rank ≡ x
   pub candidate : isCandidate s t y x ≡ true
-  pub lower : (i : ℕ) → i < rank → isCandidate s t y (at (listOf (s .arrivals)) i) ≡ true → beats s now x (at (listOf (s .arrivals)) i) ≡ true
-  pub higher : (i : ℕ) → i < n → rank < i → isCandidate s t y (at (listOf (s .arrivals)) i) ≡ true → beats s now (at (listOf (s .arrivals)) i) x ≡ false
+  pub lower : (i : ℕ) → i < rank → isCandidate s t y (arrivedAt s i) ≡ true → beats s now x (arrivedAt s i) ≡ true
+  pub higher : (i : ℕ) → i < n → rank < i → isCandidate s t y (arrivedAt s i) ≡ true → beats s now (arrivedAt s i) x ≡ false
 
 -- a link to the best: none, or to it
 abbrev pub BestLink : State → ℕ → ℕ → ℕ → ℕ → ℕ → Type 0
-BestLink s now t y n zero = (i : ℕ) → i < n → isCandidate s t y (at (listOf (s .arrivals)) i) ≡ false
+BestLink s now t y n zero = (i : ℕ) → i < n → isCandidate s t y (arrivedAt s i) ≡ false
 BestLink s now t y n (suc x) = Best s now t y n x
 
 module _ (s : State) (now t y n : ℕ) where
-  job : ℕ → ℕ
-  job i = at (listOf (s .arrivals)) i
-
   -- the newcomer is the best
-  newcomer : (x : ℕ) → Best s now t y n x → isCandidate s t y (job n) && beats s now (job n) x ≡ true → Best s now t y (suc n) (job n)
-  unfolding job
+  newcomer : (x : ℕ) → Best s now t y n x → isCandidate s t y (arrivedAt s n) && beats s now (arrivedAt s n) x ≡ true → Best s now t y (suc n) (arrivedAt s n)
   newcomer x h k =
-      let c = and-left (isCandidate s t y (job n)) (beats s now (job n) x) k in
-      let b = and-right (isCandidate s t y (job n)) (beats s now (job n) x) k in
+      let c = and-left (isCandidate s t y (arrivedAt s n)) (beats s now (arrivedAt s n) x) k in
+      let b = and-right (isCandidate s t y (arrivedAt s n)) (beats s now (arrivedAt s n) x) k in
       record {
         rank = n;
         below = lt-suc-self n;
@@ -96,20 +86,20 @@ module _ (s : State) (now t y n : ℕ) where
         candidate = c;
         lower = λ i l q.
             elim (decLt i (h .rank)) [
-              | yes m ↦ beats-less s now (job i) x (job n) (candidate-waits s t y (job i) q) (beats-not s now x (job i) (h .lower i m q)) b
+              | yes m ↦ beats-less s now (arrivedAt s i) x (arrivedAt s n) (candidate-waits s t y (arrivedAt s i) q) (beats-not s now x (arrivedAt s i) (h .lower i m q)) b
               | no m ↦
                   ⊎-elim
                   (λ e. rw (← e, h .stands) b)
-                  (λ g. beats-less s now (job i) x (job n) (candidate-waits s t y (job i) q) (h .higher i l g q) b)
+                  (λ g. beats-less s now (arrivedAt s i) x (arrivedAt s n) (candidate-waits s t y (arrivedAt s i) q) (h .higher i l g q) b)
                   (eq-or-lt-of-le {n = h .rank} {m = i} (omega arith))
             ];
         higher = λ i l g. absurd (omega arith);
       }
 
-  best-step : (b : ℕ) → BestLink s now t y n b → BestLink s now t y (suc n) (better s now t y b (job n))
-  unfolding better job
+  best-step : (b : ℕ) → BestLink s now t y n b → BestLink s now t y (suc n) (better s now t y b (arrivedAt s n))
+  unfolding better
   best-step zero h =
-      if-cases (BestLink s now t y (suc n)) (isCandidate s t y (job n))
+      if-cases (BestLink s now t y (suc n)) (isCandidate s t y (arrivedAt s n))
       (λ c.
       record {
         rank = n;
@@ -119,9 +109,9 @@ module _ (s : State) (now t y n : ℕ) where
         lower = λ i l q. true-not-false q (h i l);
         higher = λ i l g. absurd (omega arith);
       })
-      (λ f. below-suc (λ i. isCandidate s t y (job i) ≡ false) n h f)
+      (λ f. below-suc (λ i. isCandidate s t y (arrivedAt s i) ≡ false) n h f)
   best-step (suc x) h =
-      if-cases (BestLink s now t y (suc n)) (isCandidate s t y (job n) && beats s now (job n) x)
+      if-cases (BestLink s now t y (suc n)) (isCandidate s t y (arrivedAt s n) && beats s now (arrivedAt s n) x)
       (newcomer x h)
       (λ f.
       record {
@@ -131,33 +121,33 @@ module _ (s : State) (now t y n : ℕ) where
         candidate = h .candidate;
         lower = h .lower;
         higher =
-            below-suc (λ i. h .rank < i → isCandidate s t y (job i) ≡ true → beats s now (job i) x ≡ false) n (h .higher)
-            (λ g q. ⊎-elim (λ z. true-not-false q z) (λ z. z) (and-false-cases (isCandidate s t y (job n)) (beats s now (job n) x) f));
+            below-suc (λ i. h .rank < i → isCandidate s t y (arrivedAt s i) ≡ true → beats s now (arrivedAt s i) x ≡ false) n (h .higher)
+            (λ g q. ⊎-elim (λ z. true-not-false q z) (λ z. z) (and-false-cases (isCandidate s t y (arrivedAt s n)) (beats s now (arrivedAt s n) x) f));
       })
 
 pub best-link : (s : State) (now t y : ℕ) → BestLink s now t y (length (listOf (s .arrivals))) (bestCandidate s now t y)
-unfolding bestCandidate job
+unfolding bestCandidate bestBefore
 best-link s now t y =
-    fold-keeps (BestLink s now t y) (λ rank b. better s now t y b (at (listOf (s .arrivals)) rank)) 0 (length (listOf (s .arrivals)))
+    fold-keeps (BestLink s now t y) (λ rank b. better s now t y b (arrivedAt s rank)) 0 (length (listOf (s .arrivals)))
     (λ i l. absurd (not-suc-le-zero l))
     (λ i b l h. best-step s now t y i b h)
 
 -- no link just where nobody is a candidate
-pub best-none : (s : State) (now t y : ℕ) → bestCandidate s now t y ≡ 0 → (i : ℕ) → i < length (listOf (s .arrivals)) → isCandidate s t y (at (listOf (s .arrivals)) i) ≡ false
+pub best-none : (s : State) (now t y : ℕ) → bestCandidate s now t y ≡ 0 → (i : ℕ) → i < length (listOf (s .arrivals)) → isCandidate s t y (arrivedAt s i) ≡ false
 best-none s now t y e = subst (BestLink s now t y (length (listOf (s .arrivals)))) e (best-link s now t y)
 
 pub best-some : (s : State) (now t y x : ℕ) → bestCandidate s now t y ≡ suc x → Best s now t y (length (listOf (s .arrivals))) x
 best-some s now t y x e = subst (BestLink s now t y (length (listOf (s .arrivals)))) e (best-link s now t y)
 
 -- no candidate beats the best
-pub best-unbeaten : (s : State) (now t y n x : ℕ) → Best s now t y n x → (i : ℕ) → i < n → isCandidate s t y (at (listOf (s .arrivals)) i) ≡ true → beats s now (at (listOf (s .arrivals)) i) x ≡ false
+pub best-unbeaten : (s : State) (now t y n x : ℕ) → Best s now t y n x → (i : ℕ) → i < n → isCandidate s t y (arrivedAt s i) ≡ true → beats s now (arrivedAt s i) x ≡ false
 unfolding beats
 best-unbeaten s now t y n x b i l c = elim (decLt i (b .rank)) [
-  | yes m ↦ beats-not s now x (at (listOf (s .arrivals)) i) (b .lower i m c)
+  | yes m ↦ beats-not s now x (arrivedAt s i) (b .lower i m c)
   | no m ↦
       ⊎-elim
-      (λ e. subst (λ z. beats s now z x ≡ false) (sym (b .stands) ∙ ap (at (listOf (s .arrivals))) e)
-      (le-ltb ((now - at (s .jobs .arrival) x + 1) * waitingOf s x) ((now - at (s .jobs .arrival) x + 1) * waitingOf s x) (le-refl ((now - at (s .jobs .arrival) x + 1) * waitingOf s x))))
+      (λ e. subst (λ z. beats s now z x ≡ false) (sym (b .stands) ∙ ap (arrivedAt s) e)
+      (le-ltb (ageOf s now x * waitingOf s x) (ageOf s now x * waitingOf s x) (le-refl (ageOf s now x * waitingOf s x))))
       (λ g. b .higher i l g c)
       (eq-or-lt-of-le {n = b .rank} {m = i} (omega arith))
 ]

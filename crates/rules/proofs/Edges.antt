@@ -19,11 +19,11 @@ use Rattle.rules.specs.declared.Move.{Move}
 use Rattle.rules.specs.declared.Jobs.{Jobs}
 use Rattle.rules.specs.declared.State.{State}
 use Rattle.rules.specs.Sizes.{U}
-use Rattle.rules.specs.State.{at, waitingOf}
+use Rattle.rules.specs.State.{at, listOf, waitingOf}
 use Rattle.rules.specs.Setup.{settingsInRange}
 use Rattle.rules.specs.Windows.{feedback, cohortShare, isDeadAt, afterFailure, stepped, wokenHealth}
 use Rattle.rules.specs.Sound.{sumsFit}
-use Rattle.rules.specs.Preemption.{hasCredit, beats, paysFor, longEnough}
+use Rattle.rules.specs.Preemption.{hasCredit, isCandidate, beats, better, bestBefore, notAbove, searchEnd, lookedAt, paysFor, longEnough}
 use Rattle.rules.specs.Pick.{pickedJobs, nobody, preemption}
 use Rattle.rules.specs.Calls.{took, picked}
 use Rattle.rules.specs.Tally.{tallied, noTally}
@@ -181,6 +181,27 @@ pub tie-edge : (s : State) → at (s .jobs .arrival) 1 ≡ 10 → at (s .jobs .a
     → (beats s 13 2 1 ≡ false) × (beats s 14 2 1 ≡ true)
 unfolding beats
 tie-edge s b c m n = rw (b, c, m, n) (refl, refl)
+
+-- What the search looks at (A3). Job 0 is current on transport 0, job 2 is on transport 1. Job 1 came at 10 and has 2 entries waiting, job 3, no
+-- candidate, came at 14, job 4 at 17.
+pub record Searched (s : State) : Type 0 where
+  pub ranks : listOf (s .arrivals) ≡ 0 ∷ 1 ∷ 2 ∷ 3 ∷ 4 ∷ []
+  pub lanes : (at (s .jobs .transport) 0 ≡ 0) × (at (s .jobs .transport) 1 ≡ 0) × (at (s .jobs .transport) 2 ≡ 1) × (at (s .jobs .transport) 3 ≡ 0) × (at (s .jobs .transport) 4 ≡ 0)
+  pub seconds : (at (s .jobs .arrival) 1 ≡ 10) × (at (s .jobs .arrival) 3 ≡ 14) × (at (s .jobs .arrival) 4 ≡ 17)
+  pub candidates : (isCandidate s 0 0 0 ≡ false) × (isCandidate s 0 0 1 ≡ true) × (isCandidate s 0 0 2 ≡ false) × (isCandidate s 0 0 3 ≡ false)
+  pub waiting : waitingOf s 1 ≡ 2
+
+-- "short of the first whose wait plus 1 is not above the best score before it": job 4 at 23, by 7 against 14/2, so 0, 1 and 3 are looked at; at 24 it is above, by
+-- 8 against 15/2
+pub search-edge : (s : State) → Searched s → (lookedAt s 23 0 0 ≡ 3) × (lookedAt s 24 0 0 ≡ 4)
+unfolding ranges better bestBefore notAbove searchEnd lookedAt
+search-edge s h =
+    let l = h .lanes in
+    let a = h .seconds in
+    let c = h .candidates in (
+      rw (h .ranks, l .0, l .1, l .2, l .3, l .4, c .0, c .1, c .2, c .3, a .0, a .1, a .2, h .waiting) (rw (h .ranks, l .0, l .1, l .2, l .3) refl),
+      rw (h .ranks, l .0, l .1, l .2, l .3, l .4, c .0, c .1, c .2, c .3, a .0, a .1, a .2, h .waiting) (rw (h .ranks, l .0, l .1, l .2, l .3, l .4) refl),
+    )
 
 -- "destinations .. take turns after the last one picked": from place 2 of job 0's order, the next turn is from place 3 on
 pub turn-edge : (g : Jobs) (x : ℕ) (rest : List ℕ) → g .turn ≡ x ∷ rest → at (pickedJobs g 0 2 .turn) 0 ≡ 3

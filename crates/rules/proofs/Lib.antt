@@ -37,6 +37,8 @@ pub mod TakenJobs
 -- picking: what is found; candidates, the best one, who preempts; the columns after a preemption, and after an entry is handed out
 pub mod Picked
 pub mod Candidates
+-- A3: the search that stops
+pub mod ShorterSearch
 pub mod Preemptor
 pub mod Preempted
 pub mod HandedOut

@@ -15,8 +15,8 @@ use Rattle.rules.specs.Sound.{countsSound, soldSound, childOf, jobSound,
 use Rattle.rules.specs.Taking.{isDead, putOffPositions, keptOf, nOf, newNumber, freePlaces, filled, newOrder, withOrder, taken}
 use Rattle.rules.specs.Picking.{hasRoom, hasAgent, eligible, eligibleOn, eligibleOf, eligibleTo, hasEligible, stepsTo, transportSteps, finds}
 use Rattle.rules.specs.Picking.{nextTransport, currentJob, passedOver, nextPlace, nextEntry}
-use Rattle.rules.specs.Preemption.{credit, hasCredit, owned, affordable, isCandidate, beats, better, bestCandidate, paysFor, paysForBest}
-use Rattle.rules.specs.Preemption.{longEnough, isPreempted, preemptorOf, addedTo, charged, preempting}
+use Rattle.rules.specs.Preemption.{credit, hasCredit, owned, affordable, isCandidate, beats, better, bestBefore, bestCandidate, notAbove, searchEnd, lookedAt}
+use Rattle.rules.specs.Preemption.{paysFor, paysForBest, longEnough, isPreempted, preemptorOf, addedTo, charged, preempting}
 use Rattle.rules.specs.Pick.{handedOut, pickFrom, pickWith, pickOn, picking}
 use Rattle.rules.specs.Reporting.{isDeath, isPutOff, putOffEntries, putOffOf, kindAfter, settled, stays, parentAfter, departed, reportedAt, reporting}
 use Rattle.rules.specs.Refusals.{badClock, isDestinationOn, lacksNumber, lacksPlaces, isBusyWith, setupRefusal, jobRefusal, pickRefusal, reportRefusal}
@@ -57,7 +57,7 @@ unfolding hasRoom hasAgent eligible eligibleOn eligibleOf eligibleTo hasEligible
 eligibility = tt
 
 unfoldable pub preemptions : Unit {0}
-unfolding credit hasCredit owned affordable isCandidate beats better bestCandidate paysFor paysForBest longEnough isPreempted preemptorOf addedTo charged preempting
+unfolding credit hasCredit owned affordable isCandidate beats better bestBefore bestCandidate notAbove searchEnd lookedAt paysFor paysForBest longEnough isPreempted preemptorOf addedTo charged preempting
 preemptions = tt
 
 unfoldable pub picks : Unit {0}

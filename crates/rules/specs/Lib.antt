@@ -23,4 +23,5 @@ pub mod Recovery
 pub mod Examples
 pub mod WideWindows
 pub mod WhyMoved
+pub mod ShorterSearch
 pub mod Tallies

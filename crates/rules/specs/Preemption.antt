@@ -6,13 +6,13 @@ use lib.ListN.{length, set}
 use lib.IntN.{ℤ, pos, negsuc, _-ℤ_}
 use lib.Dec.{eqb, ltb, leb}
 use Rattle.laws.specs.Bools.{if_then_else_}
-use Rattle.laws.specs.Range.{foldTo}
+use Rattle.laws.specs.Range.{countTo, firstTo, foldTo}
 use Rattle.laws.specs.Chain.{alongChain}
 use Rattle.laws.specs.Sequence.{moveBefore}
 use Rattle.rules.specs.declared.Settings.{Settings}
 use Rattle.rules.specs.declared.State.{State}
 use Rattle.rules.specs.Sizes.{maxJobs, sumLimit}
-use Rattle.rules.specs.State.{at, settingsOf, listOf, hasPreempted, waitingOf, parentOf}
+use Rattle.rules.specs.State.{at, settingsOf, listOf, arrivedAt, hasPreempted, waitingOf, parentOf}
 use Rattle.rules.specs.Changed.{onQueue, onJobs, onSold, onParent, onPreempted, onOvertakers}
 use Rattle.rules.specs.Picking.{hasEligible}
 
@@ -51,19 +51,46 @@ isCandidate s t y x =
     && hasEligible s x
     && canPayFor s t y x
 
+-- "now - arrival + 1": a job's wait plus 1
+abbrev pub ageOf : State → ℕ → ℕ → ℕ
+ageOf s now x = now - at (s .jobs .arrival) x + 1
+
 -- "greatest (now - arrival + 1)/m as an exact fraction": that of x is greater than that of b
 unfoldable pub beats : State → ℕ → ℕ → ℕ → Bool
-beats s now x b =
-    ltb ((now - at (s .jobs .arrival) b + 1) * waitingOf s x) ((now - at (s .jobs .arrival) x + 1) * waitingOf s b)
+beats s now x b = ltb (ageOf s now b * waitingOf s x) (ageOf s now x * waitingOf s b)
 
 -- the better of the best so far, a link, and x, of a higher arrival rank: "equal ones, the lower arrival rank"
 unfoldable pub better : State → ℕ → ℕ → ℕ → ℕ → ℕ → ℕ
 better s now t y zero x = if isCandidate s t y x then suc x else 0
 better s now t y (suc b) x = if isCandidate s t y x && beats s now x b then suc x else suc b
 
--- the link to the best candidate; 0 where there is none
+-- the link to the best candidate of the ranks below n; 0 where there is none
+unfoldable pub bestBefore : State → ℕ → ℕ → ℕ → ℕ → ℕ
+bestBefore s now t y n = foldTo (λ rank b. better s now t y b (arrivedAt s rank)) 0 n
+
+-- that of all ranks
 unfoldable pub bestCandidate : State → ℕ → ℕ → ℕ → ℕ
-bestCandidate s now t y = foldTo (λ rank b. better s now t y b (at (listOf (s .arrivals)) rank)) 0 (length (listOf (s .arrivals)))
+bestCandidate s now t y = bestBefore s now t y (length (listOf (s .arrivals)))
+
+-- What the search for it looks at: A3.
+
+-- "whose wait plus 1 is not above the best score before it", that of b; nobody's is where there is none
+unfoldable pub notAbove : State → ℕ → ℕ → ℕ → Bool
+notAbove s now zero x = false
+notAbove s now (suc b) x = leb (ageOf s now x * waitingOf s b) (ageOf s now b)
+
+-- the job of a rank is one of the transport's
+abbrev pub arrivedOn : State → ℕ → ℕ → Bool
+arrivedOn s t rank = eqb (at (s .jobs .transport) (arrivedAt s rank)) t
+
+-- the rank of the first of the transport's jobs "whose wait plus 1 is not above the best score before it"; where there is none, past the last
+unfoldable pub searchEnd : State → ℕ → ℕ → ℕ → ℕ
+searchEnd s now t y =
+    firstTo (λ rank. arrivedOn s t rank && notAbove s now (bestBefore s now t y rank) (arrivedAt s rank)) (length (listOf (s .arrivals)))
+
+-- "how many jobs it looked at: the transport's by rising rank, short of" that one
+unfoldable pub lookedAt : State → ℕ → ℕ → ℕ → ℕ
+lookedAt s now t y = countTo (arrivedOn s t) (searchEnd s now t y)
 
 -- "100·(a/c rounded down + L) ≥ m·(100-d)"
 unfoldable pub paysFor : Settings → ℕ → ℕ → Bool

@@ -92,6 +92,10 @@ listed l = record { jobs = padded maxJobs l; count = length l }
 abbrev pub queueOf : State → ℕ → List ℕ
 queueOf s t = listOf (getD (s .queues) t zeroList)
 
+-- the job of an arrival rank
+abbrev pub arrivedAt : State → ℕ → ℕ
+arrivedAt s rank = at (listOf (s .arrivals)) rank
+
 -- Entries.
 
 abbrev pub isFree : State → ℕ → Bool

@@ -20,7 +20,7 @@ use Rattle.preemption.specs.Preempting.{waitingAt}
 use Rattle.turns.specs.declared.Turn.{Turn}
 use Rattle.eligibility.specs.Eligibility.{readyIn, Reads}
 use Rattle.columns.proofs.Shapes.{shaped}
-use Rattle.preemption.proofs.Credits.{index-fits, same-below}
+use Rattle.searching.proofs.Sizes.{index-fits, same-below}
 use Rattle.eligibility.proofs.Lefts.{left-is, fits-left}
 use Rattle.eligibility.proofs.Pairs.{pairs-read, place-open, first-read}
 use Rattle.choice.proofs.Readings.{TurnRead, adds-read, turn-read, not-found, next-open, placed-read, entry-read}

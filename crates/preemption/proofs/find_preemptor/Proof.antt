@@ -14,7 +14,8 @@ use Rattle.rules.specs.State.{at, settingsOf}
 use Rattle.rules.specs.Preemption.{credit, hasCredit, owned, bestCandidate, paysFor}
 use Rattle.rules.proofs.Preemptor.{credit-owned}
 use Rattle.eligibility.specs.Eligibility.{readyIn, Reads}
-use Rattle.preemption.proofs.Credits.{link-suc, index-fits, same-below, positive, sum-fits, less-by, le-by, rest-small}
+use Rattle.searching.proofs.Sizes.{index-fits, same-below}
+use Rattle.preemption.proofs.Credits.{link-suc, positive, sum-fits, less-by, le-by, rest-small}
 use Rattle.preemption.proofs.Preempts.{preempts-off, preempts-broke, preempts-short, preempts-none, preempts-unpaid, preempts-some, most-read}
 use Rattle.preemption.proofs.find_preemptor.Statement.{statement}
 use Rattle.preemption.proofs.find_preemptor.Tie as tie
@@ -71,7 +72,7 @@ slots-small c =
 
 best-read : (c : tie.After-best-candidate) (s : State) → s .jobs ≡ start c .args .t1 → s .arrivals ≡ start c .args .arrivals → settingsOf s (start c .args .t) ≡ start c .args .g
     → Reads s (start c .args .waits .now) (readyIn (start c .args .pairs .now) (start c .args .room .now))
-    → c .best-candidate .result ≡ bestCandidate s (start c .args .time) (start c .args .t) (start c .args .y)
+    → c .best-candidate .result .link ≡ bestCandidate s (start c .args .time) (start c .args .t) (start c .args .y)
 best-read c s j a g r =
     let w = credited (rich (able c)) in
     let x = start c .args in
@@ -79,10 +80,11 @@ best-read c s j a g r =
     (most-read s (x .t1) (x .g) (x .waits .now) (readyIn (x .pairs .now) (x .room .now)) (x .time) (x .t) (x .y) j g r (toZ w64 (ofZ w64 (w .slot-credit .result))) (z-is w)
     (c .before .wide164 .result) (c .before .before .before .owned-slots .result) (c .before .wide164 .ensures .0 ∙ ap (at (x .waits .now)) (indexed w .wide .ensures .0))
     (lt-of-lt-of-le (start c .pre .1 .0) (lit≤ tt)) (c .before .before .before .owned-slots .ensures))
+    .0
 
 -- the link's job, as the code reads it
-link-read : (c : tie.After-wide2) → c .before .before .best-candidate .result ≡ suc (c .wide2 .result)
-link-read c = link-suc (c .before .before .best-candidate .result) (c .before .if4 .left) ∙ ap suc (sym (c .wide2 .ensures .0))
+link-read : (c : tie.After-wide2) → c .before .before .best-candidate .result .link ≡ suc (c .wide2 .result)
+link-read c = link-suc (c .before .before .best-candidate .result .link) (c .before .if4 .left) ∙ ap suc (sym (c .wide2 .ensures .0))
 
 pays-read : (c : tie.After-pays-for)
     → c .pays-for .result
@@ -200,11 +202,11 @@ returns-4 c =
     let x = start (c .before) .args in (
       zero≤,
       λ s j a g r. preempts-none s (x .t1) (x .g) (x .waits .now) (readyIn (x .pairs .now) (x .room .now))
-          (x .time) (x .t) (x .y) j g r (c .before .best-candidate .result) (best-read (c .before) s j a g r) (c .if4 .taken),
+          (x .time) (x .t) (x .y) j g r (c .before .best-candidate .result .link) (best-read (c .before) s j a g r) (c .if4 .taken),
     )
 
 sub-wide : tie.Need-sub-wide
-sub-wide c = positive (c .before .best-candidate .result) (c .if4 .left)
+sub-wide c = positive (c .before .best-candidate .result .link) (c .if4 .left)
 
 wide-requires-2 : tie.Need-wide-requires-2
 wide-requires-2 c κs = tt
@@ -230,7 +232,7 @@ returns-5 c =
     let x = start b .args in (
       zero≤,
       λ s j a g r. preempts-unpaid s (x .t1) (x .g) (x .waits .now) (readyIn (x .pairs .now) (x .room .now)) (x .time) (x .t) (x .y) j g r _
-          (z-is (credited (rich (able b)))) (b .best-candidate .result) (k .wide2 .result) (best-read b s j a g r) (link-read k) (k .wide2 .ensures .1)
+          (z-is (credited (rich (able b)))) (b .best-candidate .result .link) (k .wide2 .result) (best-read b s j a g r) (link-read k) (k .wide2 .ensures .1)
           (sym (pays-read (c .before)) ∙ not-true (c .before .pays-for .result) (c .if5 .taken)),
     )
 
@@ -244,7 +246,7 @@ returns-6 c =
       λ s j a g r. preempts-some s (x .t1) (x .g) (x .waits .now) (readyIn (x .pairs .now) (x .room .now)) (x .time) (x .t) (x .y) j g r (indexed w .before .if1 .left) _ (z-is w) (has-it (able b))
           (let e : able b .before .before .wide163 .result ≡ at (x .t1 .n) (x .y) = able b .before .before .wide163 .ensures .0
           ∙ ap (at (x .t1 .n)) (indexed w .wide .ensures .0) in le-by _ _ _ e (able b .if3 .left))
-          (b .best-candidate .result) (k .wide2 .result) (best-read b s j a g r) (link-read k) (k .wide2 .ensures .1)
+          (b .best-candidate .result .link) (k .wide2 .result) (best-read b s j a g r) (link-read k) (k .wide2 .ensures .1)
           (sym (pays-read (c .before)) ∙ not-false (c .before .pays-for .result) (c .if5 .left)),
     )
 

@@ -1,8 +1,8 @@
--- `preemption::greater` meets its contract: both products fit. Assumes nothing.
-use Rattle.preemption.proofs.Credits.{fraction-fits}
+-- `searching::greater` meets its contract: both products fit. Assumes nothing.
+use Rattle.searching.proofs.Sizes.{fraction-fits}
 use borrow.Author.Needs.{needs}
-use Rattle.preemption.proofs.greater.Statement.{statement}
-use Rattle.preemption.proofs.greater.Tie as tie
+use Rattle.searching.proofs.greater.Statement.{statement}
+use Rattle.searching.proofs.greater.Tie as tie
 
 mul-result : tie.Need-mul-result
 mul-result c = fraction-fits (c .args .than) (c .args .m) (c .pre .2) (c .pre .1)
