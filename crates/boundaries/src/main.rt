@@ -9,6 +9,9 @@
 //     bytes A B                               the lent text as numbers
 //     bits                                    for each field of the state, all its numbers joined by `|`
 //                                             (cases/src/bits.rt)
+//     look NOW T Y M                          how many jobs the search for who preempts the current job Y of transport T,
+//                                             which can pay for M entries, looks at, and the best candidate, counted
+//                                             from 1 (searched.rt)
 //     sequence NOW N                          N deliveries, each picked and then reported as a success: their jobs,
 //                                             counted from 1
 //     keep                                    keeps the state
@@ -18,6 +21,8 @@
 //     range FIELD ..                          changes a field of the set-up, and sets up with it; the state stays
 //
 // Empty lines and lines that begin with '#' are written as they are.
+mod searched;
+
 ghost use Prim.Native.Nat.{_*_, _≤_};
 ghost use lib.ListN.{length};
 use bytes::scan::find;
@@ -154,7 +159,7 @@ fn once(
     let n = line.len();
     let end = find(line, 0, n, 32);
     let kind = reading::kind_of(&line[..end]);
-    if 5 < kind {
+    if 6 < kind {
         return changing(kind, &line[end..], words, out, s);
     }
     let got = text::read_numbers(line, end, words);
@@ -166,16 +171,20 @@ fn once(
     if kind != 0 {
         let a = text::word(words, 0);
         let b = text::word(words, 1);
-        return looking(kind, a, b, list, written, out, s);
+        let c = text::word(words, 2);
+        let d = text::word(words, 3);
+        return looking(kind, a, b, c, d, list, written, out, s);
     }
     calling(&line[..end], k, words, list, written, out, s)
 }
 
-// What is behind the names 1 to 5.
+// What is behind the names 1 to 6.
 fn looking(
     kind: u8,
     a: u64,
     b: u64,
+    c: u64,
+    d: u64,
     list: &mut [u16],
     written: &[u8],
     out: &mut [u8],
@@ -191,6 +200,10 @@ fn looking(
     }
     if kind == 4 {
         return sequence(a, b, list, out, s);
+    }
+    if kind == 5 {
+        let n = searched::put_search(out, s, a, b, c, d);
+        return calling::left(s, n);
     }
     let n = bits::put_bits(out, s);
     calling::left(s, n)
@@ -235,10 +248,10 @@ fn changing(kind: u8, rest: &[u8], words: &mut [u64], out: &mut [u8], s: State) 
 }
 
 fn after_change(kind: u8, out: &mut [u8], s: State, next: State) -> Reply {
-    if kind == 6 {
+    if kind == 7 {
         return calling::left(next, 0);
     }
-    if kind == 7 {
+    if kind == 8 {
         let a = scheduler::ask(next, 0);
         let n = answer::ask(out, a);
         return calling::left(s, n);

@@ -57,27 +57,33 @@ pub fn kind_of(name: &[u8]) -> u8 {
     if same(name, b"sequence") {
         return 4;
     }
-    if same(name, b"bits") {
+    if same(name, b"look") {
         return 5;
     }
-    if same(name, b"set") {
+    if same(name, b"bits") {
         return 6;
     }
-    if same(name, b"broken") {
+    if same(name, b"set") {
         return 7;
     }
-    if same(name, b"range") {
+    if same(name, b"broken") {
         return 8;
+    }
+    if same(name, b"range") {
+        return 9;
     }
     0
 }
 
-// Whether all words were numbers, and as many as it takes where something is looked at: none for `bits`, else two.
+// Whether all words were numbers, and as many as it takes where something is looked at: none for `bits`, four for `look`, else two.
 pub fn fits(whole: bool, kind: u8, k: usize) -> bool {
     if kind == 0 {
         return whole;
     }
     if kind == 5 {
+        return whole & (k == 4);
+    }
+    if kind == 6 {
         return whole & (k == 0);
     }
     whole & (k == 2)

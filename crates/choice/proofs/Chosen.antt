@@ -3,38 +3,20 @@ use Prim.Native.Nat.{ℕ, zero, suc, _*_, _≤_, _<_}
 use mathlib.Core.Bool.{true, false}
 use mathlib.Core.Path.{_≡_, sym, _∙_, ap, subst}
 use native.Mathlib.Omega.{arith}
-use lib.Seq.{getD-take, length-take-le}
-use Rattle.laws.specs.Sequence.{holds}
 use Rattle.laws.proofs.Bools.{if-true, if-false}
-use Rattle.laws.proofs.Sequence.{holds-getD}
-use Rattle.laws.proofs.Once.{once-facts}
 use Rattle.rules.specs.declared.State.{State}
 use Rattle.rules.specs.SoundFacts.{Sound}
-use Rattle.rules.specs.State.{at, settingsOf, listOf, isPresent}
+use Rattle.rules.specs.State.{at, settingsOf, isPresent}
 use Rattle.rules.specs.Picking.{finds, hasEligible, nextTransport, currentJob, passedOver, nextPlace, nextEntry}
 use Rattle.rules.specs.Preemption.{preemptorOf}
 use Rattle.rules.proofs.Shape.{Shaped}
 use Rattle.rules.proofs.Picked.{Current}
 use Rattle.rules.proofs.Preemptor.{preemptor-found}
 use Rattle.choice.specs.declared.Choice.{Choice}
-use Rattle.searching.specs.Searching.{Arrived}
 use Rattle.preemption.specs.Preempting.{waitingAt}
 use Rattle.choice.specs.Choosing.{pickedFrom, nothing, chosen, chosenWith, chosenOn, choiceOf}
 
 module _ (w : State) (shape : Shaped w) (h : Sound w) where
-  pub arrived-read : (now : ℕ) → w .clock ≤ now → Arrived (w .jobs .arrival) (w .arrivals) now
-  arrived-read now late = (h .arrivals .rising, came)
-    where
-      came : (i : ℕ) → i < w .arrivals .count → (at (w .arrivals .jobs) i < 32) × (at (w .jobs .arrival) (at (w .arrivals .jobs) i) ≤ now)
-      came i l =
-          let n = h .arrivals .count in
-          let here : at (listOf (w .arrivals)) i ≡ at (w .arrivals .jobs) i = getD-take (w .arrivals .count) (w .arrivals .jobs) i 0 l in
-          let long = length-take-le (w .arrivals .count) (w .arrivals .jobs) (omega (arith, shape .arrivals)) in
-          let k : holds (at (w .arrivals .jobs) i) (listOf (w .arrivals)) ≡ true =
-          subst (λ x. holds x (listOf (w .arrivals)) ≡ true) here (holds-getD (listOf (w .arrivals)) i 0 (omega (arith, long)))
-          in
-          (once-facts (isPresent w) 32 (listOf (w .arrivals)) (h .arrivals .once) .below (at (w .arrivals .jobs) i) k, omega (arith, h .arrivals .past (at (w .arrivals .jobs) i) k))
-
   pub sold-read : (t y : ℕ) → Current w t y → settingsOf w t .cost * at (w .jobs .sold) y ≤ 256
   sold-read t y r =
       let s = h .jobs y (r .below) (r .present) in

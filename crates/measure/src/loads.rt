@@ -79,25 +79,37 @@ fn count_report(good: u32, a: ReportAnswer) -> u32 {
 
 // Picks, four to a round, each from the state that the one before left. After 64 all windows are full: from the scene again.
 pub fn pick(rounds: u32) -> u32 {
-    let scene = scene::whole();
+    picks(scene::whole(), 0, rounds)
+}
+
+// Of 32 jobs on one transport, that came a minute apart, and that came all at once.
+pub fn lane(rounds: u32) -> u32 {
+    picks(scene::lane(true), scene::second(true, 31), rounds)
+}
+
+pub fn crowd(rounds: u32) -> u32 {
+    picks(scene::lane(false), scene::second(false, 31), rounds)
+}
+
+fn picks(scene: State, now: u64, rounds: u32) -> u32 {
     let mut s = scene;
     let mut good: u32 = 0;
     let mut left = rounds;
     while 0 < left {
         left -= 1;
-        let p = scheduler::pick(s, 0);
+        let p = scheduler::pick(s, now);
         let a = p.answer;
         good = count_pick(good, a);
         let one = p.state;
-        let q = scheduler::pick(one, 0);
+        let q = scheduler::pick(one, now);
         let b = q.answer;
         good = count_pick(good, b);
         let two = q.state;
-        let r = scheduler::pick(two, 0);
+        let r = scheduler::pick(two, now);
         let c = r.answer;
         good = count_pick(good, c);
         let three = r.state;
-        let t = scheduler::pick(three, 0);
+        let t = scheduler::pick(three, now);
         let d = t.answer;
         good = count_pick(good, d);
         let after = t.state;

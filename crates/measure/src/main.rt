@@ -13,6 +13,8 @@ fn main() {
         show_scene();
         say(b"sound ", loads::sound(64));
         say(b"pick ", loads::pick(16));
+        say(b"lane ", loads::lane(16));
+        say(b"crowd ", loads::crowd(16));
         say(b"report ", loads::report(16));
         say(b"death ", deaths::death(1));
         say(b"turn ", loads::turn(216));
@@ -32,6 +34,12 @@ fn measure(name: &[u8]) {
     }
     if check::same(name, b"pick") {
         say(b"pick ", loads::pick(rounds / 4));
+    }
+    if check::same(name, b"lane") {
+        say(b"lane ", loads::lane(rounds / 4));
+    }
+    if check::same(name, b"crowd") {
+        say(b"crowd ", loads::crowd(rounds / 4));
     }
     if check::same(name, b"report") {
         say(b"report ", loads::report(rounds / 4));

@@ -11,7 +11,6 @@ use mir.Syntax.{w64}
 use mir.Val.{Fits, SFits, toZ, ofZ}
 use mir.Facts.{fits-natAbs, toZ-ofZ}
 use mir.ValLaws.{toZ-pos}
-use mathlib.Core.List.{List}
 use Rattle.rules.specs.State.{at}
 use Rattle.rules.specs.Preemption.{hasCredit, owned}
 

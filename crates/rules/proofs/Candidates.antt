@@ -1,5 +1,5 @@
 -- What a candidate is, and which of them is the best.
-use Prim.Native.Nat.{ℕ, zero, suc, _+_, _-_, _*_, _≤_, _<_}
+use Prim.Native.Nat.{ℕ, zero, suc, _-_, _*_, _≤_, _<_}
 use mathlib.Core.Bool.{true, false, _&&_}
 use mathlib.Core.Path.{_≡_, refl, sym, _∙_, ap, subst}
 use mathlib.Core.Logic.{_≢_, ⊎-elim}
@@ -131,10 +131,6 @@ best-link s now t y =
     fold-keeps (BestLink s now t y) (λ rank b. better s now t y b (arrivedAt s rank)) 0 (length (listOf (s .arrivals)))
     (λ i l. absurd (not-suc-le-zero l))
     (λ i b l h. best-step s now t y i b h)
-
--- no link just where nobody is a candidate
-pub best-none : (s : State) (now t y : ℕ) → bestCandidate s now t y ≡ 0 → (i : ℕ) → i < length (listOf (s .arrivals)) → isCandidate s t y (arrivedAt s i) ≡ false
-best-none s now t y e = subst (BestLink s now t y (length (listOf (s .arrivals)))) e (best-link s now t y)
 
 pub best-some : (s : State) (now t y x : ℕ) → bestCandidate s now t y ≡ suc x → Best s now t y (length (listOf (s .arrivals))) x
 best-some s now t y x e = subst (BestLink s now t y (length (listOf (s .arrivals)))) e (best-link s now t y)

@@ -1,9 +1,9 @@
 -- A3: the search that stops finds the same best, wherever arrival seconds never fall along ranks.
-use Prim.Native.Nat.{ℕ, zero, suc, _+_, _*_, _≤_, _<_}
+use Prim.Native.Nat.{ℕ, zero, suc, _*_, _≤_, _<_}
 use mathlib.Core.Path.{_≡_, refl, sym, ap, subst}
 use mathlib.Core.Bool.{Bool, true, false, _&&_}
 use mathlib.Core.Logic.{⊎-elim}
-use native.Mathlib.Nat.{eq-or-lt-of-le, le-refl, le-trans, mul-le-mul-left, mul-le-mul-right, mul-one}
+use native.Mathlib.Nat.{eq-or-lt-of-le, le-refl, le-trans, mul-le-mul-left, mul-le-mul-right}
 use native.Mathlib.Decide.{decLt}
 use native.Mathlib.Omega.{arith}
 use lib.ListN.{length}

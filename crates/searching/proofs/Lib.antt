@@ -1,3 +1,4 @@
 pub mod Sizes
 pub mod Scores
 pub mod Searches
+pub mod Arrivals

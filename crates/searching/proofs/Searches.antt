@@ -1,7 +1,7 @@
 -- The walk of the search along the list of arrivals: what it knows before a rank, and what it answers at its end.
 use Prim.Native.Nat.{ℕ, zero, suc, _+_, _-_, _*_, _/_, _≤_, _<_}
 use mathlib.Core.Bool.{Bool, true, false, _&&_}
-use mathlib.Core.Path.{_≡_, refl, sym, _∙_, ap, subst}
+use mathlib.Core.Path.{_≡_, refl, sym, _∙_, ap}
 use mathlib.Core.List.{List}
 use native.Mathlib.Numerals.{add-one}
 use native.Mathlib.Omega.{arith}
@@ -21,7 +21,7 @@ use Rattle.rules.specs.declared.Jobs.{Jobs}
 use Rattle.rules.specs.declared.JobList.{JobList}
 use Rattle.rules.specs.declared.State.{State}
 use Rattle.rules.specs.State.{at, settingsOf, listOf, arrivedAt, waitingOf}
-use Rattle.rules.specs.Preemption.{owned, creditOf, isCandidate, better, bestBefore, bestCandidate, notAbove, arrivedOn, searchEnd, lookedAt}
+use Rattle.rules.specs.Preemption.{owned, creditOf, better, bestBefore, bestCandidate, notAbove, arrivedOn, searchEnd, lookedAt}
 use Rattle.rules.proofs.ShorterSearch.{same-best}
 use Rattle.eligibility.specs.Eligibility.{Reads}
 use Rattle.searching.proofs.Scores.{Score, ableAt, no-candidate, candidate-is, not-above-is, better-is}

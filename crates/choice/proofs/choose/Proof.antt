@@ -21,11 +21,12 @@ use Rattle.turns.specs.declared.Turn.{Turn}
 use Rattle.eligibility.specs.Eligibility.{readyIn, Reads}
 use Rattle.columns.proofs.Shapes.{shaped}
 use Rattle.searching.proofs.Sizes.{index-fits, same-below}
+use Rattle.searching.proofs.Arrivals.{arrived-read}
 use Rattle.eligibility.proofs.Lefts.{left-is, fits-left}
 use Rattle.eligibility.proofs.Pairs.{pairs-read, place-open, first-read}
 use Rattle.choice.proofs.Readings.{TurnRead, adds-read, turn-read, not-found, next-open, placed-read, entry-read}
 use Rattle.rules.proofs.RangeFacts.{slots-range}
-use Rattle.choice.proofs.Chosen.{arrived-read, sold-read, job-read, nothing-chosen, all-chosen}
+use Rattle.choice.proofs.Chosen.{sold-read, job-read, nothing-chosen, all-chosen}
 use Rattle.choice.proofs.choose.Statement.{statement}
 use Rattle.choice.proofs.choose.Tie as tie
 

@@ -1,16 +1,13 @@
 -- `searching::best_candidate` meets its contract. Invariant: what the search knows before rank i (`SearchedTo`). Measure: the ranks left. Assumes nothing.
 use Prim.Native.Nat.{ℕ, _+_, _-_, _*_, _≤_, _<_}
 use mathlib.Core.Path.{_≡_, refl, sym, _∙_, ap, subst}
-use mathlib.Core.Bool.{Bool, true, false, _&&_}
-use mathlib.Core.List.{List}
+use mathlib.Core.Bool.{true, false}
 use mathlib.Core.Logic.{⊎-elim}
 use native.Mathlib.Omega.{arith}
 use lib.Dec.{ltb, lit≤}
-use lib.ListN.{getD}
-use Rattle.laws.proofs.Bools.{and-both, and-left-false, and-right-false}
 use Rattle.rules.specs.State.{at}
 use Rattle.eligibility.specs.Eligibility.{readyIn}
-use Rattle.searching.proofs.Sizes.{age-fits, index-fits, same-below}
+use Rattle.searching.proofs.Sizes.{age-fits, index-fits}
 use Rattle.searching.proofs.Scores.{tests-read}
 use Rattle.searching.proofs.Searches.{SearchedTo, search-begins, search-is, link-below, search-done, passed-by, search-stops, search-keeps, search-leads}
 use Rattle.searching.proofs.best_candidate.Statement.{statement}

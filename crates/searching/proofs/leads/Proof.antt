@@ -1,5 +1,5 @@
 -- `searching::leads` meets its contract. Assumes nothing.
-use mathlib.Core.Path.{_≡_, sym, _∙_, ap}
+use mathlib.Core.Path.{sym, _∙_, ap}
 use mathlib.Core.Bool.{false, _&&_}
 use lib.ListN.{getD}
 use Rattle.laws.proofs.Bools.{and-left-false}

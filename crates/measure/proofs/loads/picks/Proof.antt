@@ -2,21 +2,18 @@
 use Prim.Native.Nat.{_≤_}
 use native.Mathlib.Omega.{arith}
 use borrow.Author.Needs.{needs}
-use Rattle.measure.proofs.loads.pick.Statement.{statement}
-use Rattle.measure.proofs.loads.pick.Tie as tie
+use Rattle.measure.proofs.loads.picks.Statement.{statement}
+use Rattle.measure.proofs.loads.picks.Tie as tie
 
 abbrev Inv-loop : tie.InvT-loop
-Inv-loop rounds scene s₀ good₀ left₀ s good left = left ≤ rounds
+Inv-loop scene now rounds s₀ good₀ left₀ s good left = left ≤ rounds
 
 abbrev μ-loop : tie.MeasureT-loop
-μ-loop rounds scene s₀ good₀ left₀ s good left = left
+μ-loop scene now rounds s₀ good₀ left₀ s good left = left
 
 -- the head of a turn, seen from its end
 abbrev turn : tie.After-after Inv-loop μ-loop → tie.In-loop Inv-loop μ-loop
 turn c = c .before .before .before .before .before .before .before .before .before .before .before .before
-
-whole-requires : tie.Need-whole-requires Inv-loop μ-loop
-whole-requires c κs = search needs
 
 loop-holds : tie.Need-loop-holds Inv-loop μ-loop
 loop-holds c = search needs
@@ -63,13 +60,12 @@ loop-again-2 c = omega (arith, turn (c .before) .loop-test .taken, turn (c .befo
 returns : tie.Need-returns Inv-loop μ-loop
 returns c = search needs
 
-pub pick-spec : {M : Type 1} → statement M
-pick-spec =
+pub picks-spec : {M : Type 1} → statement M
+picks-spec =
     tie.close
     (tie.spec
     Inv-loop
     μ-loop
-    whole-requires
     loop-holds
     sub-left
     pick-requires
