@@ -168,23 +168,32 @@ fn once(
         let m = answer::malformed(out);
         return calling::left(s, m);
     }
+    if kind == 5 {
+        return searching(words, out, s);
+    }
     if kind != 0 {
         let a = text::word(words, 0);
         let b = text::word(words, 1);
-        let c = text::word(words, 2);
-        let d = text::word(words, 3);
-        return looking(kind, a, b, c, d, list, written, out, s);
+        return looking(kind, a, b, list, written, out, s);
     }
     calling(&line[..end], k, words, list, written, out, s)
 }
 
-// What is behind the names 1 to 6.
+// What is behind the name 5.
+fn searching(words: &[u64], out: &mut [u8], s: State) -> Reply {
+    let now = text::word(words, 0);
+    let t = text::word(words, 1);
+    let y = text::word(words, 2);
+    let most = text::word(words, 3);
+    let n = searched::put_search(out, s, now, t, y, most);
+    calling::left(s, n)
+}
+
+// What is behind the other names 1 to 6.
 fn looking(
     kind: u8,
     a: u64,
     b: u64,
-    c: u64,
-    d: u64,
     list: &mut [u16],
     written: &[u8],
     out: &mut [u8],
@@ -200,10 +209,6 @@ fn looking(
     }
     if kind == 4 {
         return sequence(a, b, list, out, s);
-    }
-    if kind == 5 {
-        let n = searched::put_search(out, s, a, b, c, d);
-        return calling::left(s, n);
     }
     let n = bits::put_bits(out, s);
     calling::left(s, n)

@@ -57,6 +57,18 @@ same-length-4 c = search needs
 returns-2 : tie.Need-returns-2
 returns-2 c = search needs
 
+searching-requires : tie.Need-searching-requires
+searching-requires c κs = search needs
+
+same-length-5 : tie.Need-same-length-5
+same-length-5 c = search needs
+
+same-length-6 : tie.Need-same-length-6
+same-length-6 c = search needs
+
+returns-3 : tie.Need-returns-3
+returns-3 c = search needs
+
 word-requires : tie.Need-word-requires
 word-requires c κs = search needs
 
@@ -66,26 +78,11 @@ word-requires-2 c κs = search needs
 looking-requires : tie.Need-looking-requires
 looking-requires c κs = search needs
 
-same-length-5 : tie.Need-same-length-5
-same-length-5 c = search needs
-
-same-length-6 : tie.Need-same-length-6
-same-length-6 c = search needs
-
 same-length-7 : tie.Need-same-length-7
 same-length-7 c = search needs
 
 same-length-8 : tie.Need-same-length-8
 same-length-8 c = search needs
-
-returns-3 : tie.Need-returns-3
-returns-3 c = search needs
-
-slice-aggregate-calling : tie.Need-slice-aggregate-calling
-slice-aggregate-calling c = sym (length-take-le _ _ (omega arith))
-
-calling-requires : tie.Need-calling-requires
-calling-requires c κs = search needs
 
 same-length-9 : tie.Need-same-length-9
 same-length-9 c = search needs
@@ -93,14 +90,29 @@ same-length-9 c = search needs
 same-length-10 : tie.Need-same-length-10
 same-length-10 c = search needs
 
+returns-4 : tie.Need-returns-4
+returns-4 c = search needs
+
+slice-aggregate-calling : tie.Need-slice-aggregate-calling
+slice-aggregate-calling c = sym (length-take-le _ _ (omega arith))
+
+calling-requires : tie.Need-calling-requires
+calling-requires c κs = search needs
+
 same-length-11 : tie.Need-same-length-11
 same-length-11 c = search needs
 
 same-length-12 : tie.Need-same-length-12
 same-length-12 c = search needs
 
-returns-4 : tie.Need-returns-4
-returns-4 c = search needs
+same-length-13 : tie.Need-same-length-13
+same-length-13 c = search needs
+
+same-length-14 : tie.Need-same-length-14
+same-length-14 c = search needs
+
+returns-5 : tie.Need-returns-5
+returns-5 c = search needs
 
 pub once-spec : {M : Type 1} → statement M
 once-spec =
@@ -123,18 +135,22 @@ once-spec =
     same-length-3
     same-length-4
     returns-2
+    searching-requires
+    same-length-5
+    same-length-6
+    returns-3
     word-requires
     word-requires-2
     looking-requires
-    same-length-5
-    same-length-6
     same-length-7
     same-length-8
-    returns-3
-    slice-aggregate-calling
-    calling-requires
     same-length-9
     same-length-10
+    returns-4
+    slice-aggregate-calling
+    calling-requires
     same-length-11
     same-length-12
-    returns-4)
+    same-length-13
+    same-length-14
+    returns-5)
