@@ -1,3 +1,4 @@
 pub mod Examples
 pub mod Tallies
 pub mod Recovery
+pub mod Searched

@@ -199,8 +199,8 @@ search-edge s h =
     let l = h .lanes in
     let a = h .seconds in
     let c = h .candidates in (
-      rw (h .ranks, l .0, l .1, l .2, l .3, l .4, c .0, c .1, c .2, c .3, a .0, a .1, a .2, h .waiting) (rw (h .ranks, l .0, l .1, l .2, l .3) refl),
-      rw (h .ranks, l .0, l .1, l .2, l .3, l .4, c .0, c .1, c .2, c .3, a .0, a .1, a .2, h .waiting) (rw (h .ranks, l .0, l .1, l .2, l .3, l .4) refl),
+      simp (h .ranks, l .0, l .1, l .2, l .3, l .4, c .0, c .1, c .2, c .3, a .0, a .1, a .2, h .waiting) refl,
+      simp (h .ranks, l .0, l .1, l .2, l .3, l .4, c .0, c .1, c .2, c .3, a .0, a .1, a .2, h .waiting) refl,
     )
 
 -- "destinations .. take turns after the last one picked": from place 2 of job 0's order, the next turn is from place 3 on
