@@ -72,9 +72,9 @@ bestBefore s now t y n = foldTo (λ rank b. better s now t y b (arrivedAt s rank
 unfoldable pub bestCandidate : State → ℕ → ℕ → ℕ → ℕ
 bestCandidate s now t y = bestBefore s now t y (length (listOf (s .arrivals)))
 
--- What the search for it looks at: A3.
+-- What the search for it looks at (A3): it walks by arrival, and the best that it has found before a rank is bestBefore.
 
--- "whose wait plus 1 is not above the best score before it", that of b; nobody's is where there is none
+-- "whose wait plus 1 is not above the best score before it": that of x against "(now - arrival + 1)/m" of b; where there is no best yet, the search goes on
 unfoldable pub notAbove : State → ℕ → ℕ → ℕ → Bool
 notAbove s now zero x = false
 notAbove s now (suc b) x = leb (ageOf s now x * waitingOf s b) (ageOf s now b)
