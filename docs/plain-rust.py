@@ -7,7 +7,7 @@ import re
 from pathlib import Path
 
 CRATES = (
-    "rules columns roots window waking ranges startup counting listing clauses soundness writing board lists charging eligibility turns preemption choice picking"
+    "rules columns roots window waking ranges startup counting listing clauses soundness writing board lists charging eligibility turns searching preemption choice picking"
     " admission newjob taking settling leaving reporting asking layout making running scheduler"
 ).split()
 HEAD = """#![allow(dead_code, unused)]

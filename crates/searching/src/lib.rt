@@ -77,6 +77,8 @@ pub fn best_candidate<'a>(
         → (r .link ≡ bestCandidate s time t y) × (r .looked ≡ lookedAt s time t y)) ⌝ }
 {
     let n = arrivals.count as usize;
+    // the second after this one: a job's wait plus 1 is from its arrival to there
+    let next = time + 1;
     let mut link: u8 = 0;
     // the best score so far, than/of; 0/1 where there is none, which is below every job's
     let mut than: u64 = 0;
@@ -87,7 +89,7 @@ pub fn best_candidate<'a>(
         let x = arrivals.jobs[i];
         let k = wide(x);
         if jobs.transport[k] == t {
-            let age = time - wide32(jobs.arrival[k]) + 1;
+            let age = next - wide32(jobs.arrival[k]);
             if not_above(age, than, of) {
                 return Best { link, looked };
             }

@@ -1,24 +1,24 @@
 -- `searching::best_candidate` meets its contract. Invariant: what the search knows before rank i (`SearchedTo`). Measure: the ranks left. Assumes nothing.
 use Prim.Native.Nat.{ℕ, _+_, _-_, _*_, _≤_, _<_}
-use mathlib.Core.Path.{_≡_, refl, sym, _∙_, ap, subst}
+use mathlib.Core.Path.{_≡_, refl, sym, _∙_, ap}
 use mathlib.Core.Bool.{true, false}
 use mathlib.Core.Logic.{⊎-elim}
 use native.Mathlib.Omega.{arith}
 use lib.Dec.{ltb, lit≤}
 use Rattle.rules.specs.State.{at}
 use Rattle.eligibility.specs.Eligibility.{readyIn}
-use Rattle.searching.proofs.Sizes.{age-fits, index-fits}
+use Rattle.searching.proofs.Sizes.{next-fits, age-is, age-small, index-fits}
 use Rattle.searching.proofs.Scores.{tests-read}
 use Rattle.searching.proofs.Searches.{SearchedTo, search-begins, search-is, link-below, search-done, passed-by, search-stops, search-keeps, search-leads}
 use Rattle.searching.proofs.best_candidate.Statement.{statement}
 use Rattle.searching.proofs.best_candidate.Tie as tie
 
 abbrev Inv-loop : tie.InvT-loop
-Inv-loop waits pairs room time t y most jobs arrivals n link₀ than₀ of₀ looked₀ i₀ link than of looked i =
+Inv-loop waits pairs room time t y most jobs arrivals n next link₀ than₀ of₀ looked₀ i₀ link than of looked i =
     (n ≡ arrivals .count) × SearchedTo jobs arrivals waits (readyIn pairs room) time t y most link than of looked i
 
 abbrev μ-loop : tie.MeasureT-loop
-μ-loop waits pairs room time t y most jobs arrivals n link₀ than₀ of₀ looked₀ i₀ link than of looked i = n - i
+μ-loop waits pairs room time t y most jobs arrivals n next link₀ than₀ of₀ looked₀ i₀ link than of looked i = n - i
 
 -- Places in the loop, each seen from a later one: where the job's index was taken, its arrival read, and the search found to go on.
 
@@ -39,6 +39,9 @@ onward c = c .before .before .before .before .before
 
 cast-n : tie.Need-cast-n Inv-loop μ-loop
 cast-n c = omega (arith, c .pre .1)
+
+add-next : tie.Need-add-next Inv-loop μ-loop
+add-next c = next-fits (c .args .time) (c .pre .0)
 
 -- the job at a rank of the list
 here : (c : tie.After-wide Inv-loop μ-loop) → (c .wide .result < 32) × (at (begun c .args .t2 .jobs) (looped c .loop .i) < 32)
@@ -79,17 +82,21 @@ wide32-requires : tie.Need-wide32-requires Inv-loop μ-loop
 wide32-requires c κs = tt
 
 sub-age : tie.Need-sub-age Inv-loop μ-loop
-sub-age c = subst (λ a. a ≤ begun (indexed c) .args .time) (sym (arrival-is c)) (here (indexed c) .2)
+sub-age c = omega (arith, arrival-is c, here (indexed c) .2)
 
-add-age : tie.Need-add-age Inv-loop μ-loop
-add-age c = let s = begun (indexed c) in age-fits (s .args .time) (c .wide32 .result) (s .pre .0) .0
-
--- its wait plus 1 is small enough for the products
-age-small : (c : tie.After-wide32 Inv-loop μ-loop) → begun (indexed c) .args .time - c .wide32 .result + 1 ≤ 4294967296
-age-small c = let s = begun (indexed c) in age-fits (s .args .time) (c .wide32 .result) (s .pre .0) .1
+-- its wait plus 1, which is small enough for the products
+waited : (c : tie.After-wide32 Inv-loop μ-loop)
+    → let g = begun (indexed c) .args in
+    (g .time + 1 - c .wide32 .result ≤ 4294967296)
+    × (g .time + 1 - c .wide32 .result ≡ g .time - at (g .t1 .arrival) (at (g .t2 .jobs) (looped (indexed c) .loop .i)) + 1)
+waited c =
+    let s = begun (indexed c) in (
+      age-small (s .args .time) (c .wide32 .result) (s .pre .0),
+      ap (λ z. s .args .time + 1 - z) (arrival-is c) ∙ age-is (s .args .time) (at (s .args .t1 .arrival) (at (s .args .t2 .jobs) (looped (indexed c) .loop .i))) (here (indexed c) .2),
+    )
 
 not-above-requires : tie.Need-not-above-requires Inv-loop μ-loop
-not-above-requires c κs = (age-small c, looped (indexed c) .loop .inv .1 .score .small)
+not-above-requires c κs = (waited c .0, looped (indexed c) .loop .inv .1 .score .small)
 
 returns : tie.Need-returns Inv-loop μ-loop
 returns c =
@@ -98,7 +105,7 @@ returns c =
     let r = looped i .loop .inv .1 in
     let p = begun i .pre in (
       link-below r,
-      λ s j l q m. search-stops r (i .before .before .loop-test .taken) _ refl (here i .1) (on a) _ (ap (λ z. begun i .args .time - z + 1) (arrival-is a)) (sym (c .before .not-above .ensures) ∙ c .if2 .taken)
+      λ s j l q m. search-stops r (i .before .before .loop-test .taken) _ refl (here i .1) (on a) _ (waited a .1) (sym (c .before .not-above .ensures) ∙ c .if2 .taken)
           (p .1) (p .2) (p .3 .0) s (record { jobs' = j; arrivals' = l; reads = q; most' = m }),
     )
 
@@ -132,7 +139,7 @@ greater-requires : tie.Need-greater-requires Inv-loop μ-loop
 greater-requires c κs =
     let a = aged (onward c) in
     let r = looped (indexed a) .loop .inv .1 in
-    (age-small a, c .before .before .before .wide16 .ensures .1, r .score .old, r .score .small)
+    (waited a .0, c .before .before .before .wide16 .ensures .1, r .score .old, r .score .small)
 
 leads-requires : tie.Need-leads-requires Inv-loop μ-loop
 leads-requires c κs = tt
@@ -155,7 +162,7 @@ abbrev entries : tie.After-leads Inv-loop μ-loop → ℕ
 entries c = c .before .before .before .before .before .wide16 .result
 
 abbrev age : tie.After-leads Inv-loop μ-loop → ℕ
-age c = begun (indexed (weighed c)) .args .time - weighed c .wide32 .result + 1
+age c = begun (indexed (weighed c)) .args .time + 1 - weighed c .wide32 .result
 
 looked-at : (c : tie.After-leads Inv-loop μ-loop)
     → let i = indexed (weighed c) in
@@ -174,16 +181,15 @@ looked-at c =
     let k = i .wide .ensures .0 in
     let ahead = c .before .greater .result in
     let is : entries c ≡ at (g .waits .now) (at (g .t2 .jobs) (l .i)) = size .0 ∙ ap (at (g .waits .now)) k in
-    let since = ap (λ z. g .time - z + 1) (arrival-is a) in
     let goes = sym (o .before .not-above .ensures) ∙ o .if2 .left in
     let before = c .before .greater .ensures ∙ ap (λ z. ltb (l .than * z) (age c * l .of)) is in
     let tests =
     tests-read (g .t1) (g .waits .now) (readyIn (g .pairs .now) (g .room .now)) (g .y) (g .most) (at (g .t2 .jobs) (l .i)) (i .wide .result) (entries c) (c .before .before .candidate .result) ahead
     k (size .0) (c .before .before .candidate .ensures)
     in (
-      λ t. search-leads (l .inv .1) (i .before .before .loop-test .taken) _ refl (here i .1) (on a) (age c) since goes ahead before
-          (sym (c .leads .ensures ∙ tests) ∙ t) (entries c) is (size .1) (age-small a),
-      λ f. search-keeps (l .inv .1) (i .before .before .loop-test .taken) _ refl (here i .1) (on a) (age c) since goes ahead before (sym (c .leads .ensures ∙ tests) ∙ f),
+      λ t. search-leads (l .inv .1) (i .before .before .loop-test .taken) _ refl (here i .1) (on a) (age c) (waited a .1) goes ahead before
+          (sym (c .leads .ensures ∙ tests) ∙ t) (entries c) is (size .1) (waited a .0),
+      λ f. search-keeps (l .inv .1) (i .before .before .loop-test .taken) _ refl (here i .1) (on a) (age c) (waited a .1) goes ahead before (sym (c .leads .ensures ∙ tests) ∙ f),
     )
 
 loop-again : tie.Need-loop-again Inv-loop μ-loop
@@ -219,6 +225,7 @@ best-candidate-spec =
     Inv-loop
     μ-loop
     cast-n
+    add-next
     loop-holds
     element-copy-out-x
     wide-requires
@@ -227,7 +234,6 @@ best-candidate-spec =
     element-copy-out-wide32
     wide32-requires
     sub-age
-    add-age
     not-above-requires
     returns
     add-looked
