@@ -1,7 +1,7 @@
 -- A3: the search that stops finds the same best, wherever arrival seconds never fall along ranks.
 use Prim.Native.Nat.{ℕ, zero, suc, _*_, _≤_, _<_}
 use mathlib.Core.Path.{_≡_, refl, sym, ap, subst}
-use mathlib.Core.Bool.{Bool, true, false, _&&_}
+use mathlib.Core.Bool.{true, false}
 use mathlib.Core.Logic.{⊎-elim}
 use native.Mathlib.Nat.{eq-or-lt-of-le, le-refl, le-trans, mul-le-mul-left, mul-le-mul-right}
 use native.Mathlib.Decide.{decLt}
@@ -15,7 +15,7 @@ use Rattle.laws.proofs.First.{first-le, first-holds}
 use Rattle.laws.proofs.Falling.{falling-getD}
 use Rattle.rules.specs.declared.State.{State}
 use Rattle.rules.specs.State.{at, listOf, arrivedAt, waitingOf}
-use Rattle.rules.specs.Preemption.{isCandidate, ageOf, beats, better, bestBefore, bestCandidate, notAbove, arrivedOn, searchEnd}
+use Rattle.rules.specs.Preemption.{isCandidate, ageOf, beats, better, bestBefore, bestCandidate, notAbove, arrivedOn, stopsAt, searchEnd}
 use Rattle.rules.specs.ShorterSearch.{SameBest, ShorterSearch}
 use Rattle.rules.proofs.Candidates.{candidate-waits}
 
@@ -65,13 +65,11 @@ module _ (s : State) (now t y : ℕ) (rising : neverFalling (at (s .jobs .arriva
   same-with zero e found stop l = true-not-false stop refl
   same-with (suc b) e found stop l = sym (stays b e found stop (length (listOf (s .arrivals))) l (le-refl _))
 
-  stops : ℕ → Bool
-  stops rank = arrivedOn s t rank && notAbove s now (bestBefore s now t y rank) (arrivedAt s rank)
-
   same-end : bestBefore s now t y (searchEnd s now t y) ≡ bestCandidate s now t y
-  unfolding searchEnd bestCandidate stops
+  unfolding searchEnd bestCandidate
   same-end =
       let n = length (listOf (s .arrivals)) in
+      let stops = stopsAt s now t y in
       let e = firstTo stops n in
       elim (decLt e n) [
         | yes l ↦ same-with (bestBefore s now t y e) e refl (and-right (arrivedOn s t e) (notAbove s now (bestBefore s now t y e) (arrivedAt s e)) (first-holds stops n l)) (first-le stops n)

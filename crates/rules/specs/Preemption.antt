@@ -83,10 +83,13 @@ notAbove s now (suc b) x = leb (ageOf s now x * waitingOf s b) (ageOf s now b)
 abbrev pub arrivedOn : State → ℕ → ℕ → Bool
 arrivedOn s t rank = eqb (at (s .jobs .transport) (arrivedAt s rank)) t
 
--- the rank of the first of the transport's jobs "whose wait plus 1 is not above the best score before it"; where there is none, past the last
+-- it is one, and its wait plus 1 is not above the score of the best before it
+abbrev pub stopsAt : State → ℕ → ℕ → ℕ → ℕ → Bool
+stopsAt s now t y rank = arrivedOn s t rank && notAbove s now (bestBefore s now t y rank) (arrivedAt s rank)
+
+-- the rank of "the first" such job; where there is none, past the last
 unfoldable pub searchEnd : State → ℕ → ℕ → ℕ → ℕ
-searchEnd s now t y =
-    firstTo (λ rank. arrivedOn s t rank && notAbove s now (bestBefore s now t y rank) (arrivedAt s rank)) (length (listOf (s .arrivals)))
+searchEnd s now t y = firstTo (stopsAt s now t y) (length (listOf (s .arrivals)))
 
 -- "how many jobs it looked at: the transport's by rising rank, short of" that one
 unfoldable pub lookedAt : State → ℕ → ℕ → ℕ → ℕ

@@ -21,7 +21,7 @@ use Rattle.rules.specs.declared.Jobs.{Jobs}
 use Rattle.rules.specs.declared.JobList.{JobList}
 use Rattle.rules.specs.declared.State.{State}
 use Rattle.rules.specs.State.{at, settingsOf, listOf, arrivedAt, waitingOf}
-use Rattle.rules.specs.Preemption.{owned, creditOf, better, bestBefore, bestCandidate, notAbove, arrivedOn, searchEnd, lookedAt}
+use Rattle.rules.specs.Preemption.{owned, creditOf, better, bestBefore, bestCandidate, notAbove, arrivedOn, stopsAt, searchEnd, lookedAt}
 use Rattle.rules.proofs.ShorterSearch.{same-best}
 use Rattle.eligibility.specs.Eligibility.{Reads}
 use Rattle.searching.proofs.Scores.{Score, ableAt, no-candidate, candidate-is, not-above-is, better-is}
@@ -33,11 +33,7 @@ pub record Matches (s : State) (jobs : Jobs) (arrivals : JobList) (waits : List 
   pub reads : Reads s waits ready
   pub most' : most ≡ (waitingOf s y + owned (creditOf s t y)) / settingsOf s t .cost
 
--- the search stops at a rank
-abbrev pub stopsAt : State → ℕ → ℕ → ℕ → ℕ → Bool
-stopsAt s time t y rank = arrivedOn s t rank && notAbove s time (bestBefore s time t y rank) (arrivedAt s rank)
-
--- it stopped at none before rank i
+-- the search stopped at none before rank i
 pub record Walked (s : State) (time t y link looked i : ℕ) : Type 0 where
   pub best : link ≡ bestBefore s time t y i
   pub count : looked ≡ countTo (arrivedOn s t) i

@@ -41,7 +41,7 @@ fn not_above(age: u64, than: u64, of: u64) -> bool
     age * of <= than
 }
 
-// A candidate but for the eligible entry, and ahead of the best: only then it is asked for that entry, which takes a walk of its own.
+// A candidate but for the eligible entry, and ahead of the best: only of such a one is that entry asked for, which takes a walk of its own.
 fn leads(able: bool, ahead: bool, pairs: &[u16; 1024], room: &[bool; 256], k: usize) -> bool
     ensures { λ r. ⌜ r ≡ ((able && ahead) && getD (readyIn (now (pairs .entry)) (now (room .entry))) k false) ⌝ }
 {
