@@ -25,8 +25,8 @@ MAIN = """fn main() {
     let done = match name.as_str() {
         "sound" => loads::sound(n),
         "pick" => loads::pick(n / 4),
-        "lane" => loads::lane(n / 4),
-        "crowd" => loads::crowd(n / 4),
+        "lane" => lanes::lane(n / 4),
+        "crowd" => lanes::crowd(n / 4),
         "report" => loads::report(n / 4),
         "death" => deaths::death(n),
         "turn" => loads::turn(n),
@@ -79,5 +79,5 @@ def placed(crate: str, text: str) -> str:
 
 
 parts = [block("pub ", c, placed(c, inlined(Path(f"crates/{c}/src/lib.rt")))) for c in CRATES]
-parts += [block("", m, placed("", inlined(Path(f"crates/measure/src/{m}.rt")))) for m in ("deaths", "loads", "scene")]
+parts += [block("", m, placed("", inlined(Path(f"crates/measure/src/{m}.rt")))) for m in ("deaths", "lanes", "loads", "scene")]
 print(HEAD + "".join(parts) + MAIN, end="")

@@ -82,16 +82,8 @@ pub fn pick(rounds: u32) -> u32 {
     picks(scene::whole(), 0, rounds)
 }
 
-// Of 32 jobs on one transport, that came a minute apart, and that came all at once.
-pub fn lane(rounds: u32) -> u32 {
-    picks(scene::lane(true), scene::second(true, 31), rounds)
-}
-
-pub fn crowd(rounds: u32) -> u32 {
-    picks(scene::lane(false), scene::second(false, 31), rounds)
-}
-
-fn picks(scene: State, now: u64, rounds: u32) -> u32 {
+// Such picks of a scene, at a second.
+pub fn picks(scene: State, now: u64, rounds: u32) -> u32 {
     let mut s = scene;
     let mut good: u32 = 0;
     let mut left = rounds;

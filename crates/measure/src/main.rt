@@ -1,6 +1,7 @@
 // Makes the calls of the scheduler many times, to be timed from outside: docs/PERFORMANCE.md. The argument says which call; with none,
 // each is made a few times.
 mod deaths;
+mod lanes;
 mod loads;
 mod scene;
 
@@ -13,8 +14,8 @@ fn main() {
         show_scene();
         say(b"sound ", loads::sound(64));
         say(b"pick ", loads::pick(16));
-        say(b"lane ", loads::lane(16));
-        say(b"crowd ", loads::crowd(16));
+        say(b"lane ", lanes::lane(16));
+        say(b"crowd ", lanes::crowd(16));
         say(b"report ", loads::report(16));
         say(b"death ", deaths::death(1));
         say(b"turn ", loads::turn(216));
@@ -36,10 +37,10 @@ fn measure(name: &[u8]) {
         say(b"pick ", loads::pick(rounds / 4));
     }
     if check::same(name, b"lane") {
-        say(b"lane ", loads::lane(rounds / 4));
+        say(b"lane ", lanes::lane(rounds / 4));
     }
     if check::same(name, b"crowd") {
-        say(b"crowd ", loads::crowd(rounds / 4));
+        say(b"crowd ", lanes::crowd(rounds / 4));
     }
     if check::same(name, b"report") {
         say(b"report ", loads::report(rounds / 4));

@@ -1,4 +1,4 @@
-// The states that are measured. The first: 4 transports, 32 destinations, 32 jobs, all 512 entries used, half of the destinations full.
+// The state that is measured: 4 transports, 32 destinations, 32 jobs, all 512 entries used, half of the destinations full.
 use rules::Feedback;
 use rules::Settings;
 use rules::Setup;
@@ -6,7 +6,7 @@ use rules::State;
 ghost use Prim.Native.Nat.{_≤_};
 
 // The house defaults, with a window of 4, and with these for preemption.
-fn settings(cost: u64, loan: u64, discount: u64, minimum: u64) -> Settings {
+pub fn settings(cost: u64, loan: u64, discount: u64, minimum: u64) -> Settings {
     let f = Feedback {
         percent: 100,
         form: 1,
@@ -127,61 +127,4 @@ pub fn whole() -> State {
         t += 1;
     }
     s
-}
-
-// Eight entries for each destination.
-fn to_each() -> [u64; 256] {
-    let mut dests = [0u64; 256];
-    let mut i: usize = 0;
-    while i < 256 {
-        dests[i] = (i % 32) as u64;
-        i += 1;
-    }
-    dests
-}
-
-// One transport, on which a slot is so dear that nobody preempts, and a job of 256 entries.
-fn one_large() -> State {
-    let g = settings(100, 0, 0, 0);
-    let u = Setup {
-        transports: 1,
-        settings: [g; 4],
-        destinations: 32,
-        home: [0u64; 32],
-    };
-    let fresh = scheduler::set_up(u);
-    let dests = to_each();
-    let mut list = [0u16; 256];
-    let r = scheduler::take_job(fresh.state, 0, 0, &dests, &mut list);
-    r.state
-}
-
-// A job of 2 entries.
-fn with_small(s: State, now: u64, i: u64) -> State
-    requires { ⌜ i ≤ 31 ⌝ }
-{
-    let dests = [i, 31 - i];
-    let mut list = [0u16; 32];
-    let r = scheduler::take_job(s, now, 0, &dests, &mut list);
-    r.state
-}
-
-// When the i-th job comes: they come a minute apart, or all at once.
-pub fn second(apart: bool, i: u64) -> u64
-    requires { ⌜ i ≤ 31 ⌝ }
-{
-    if apart { 60 * i } else { 0 }
-}
-
-// The second: 32 jobs on one transport, one of 256 entries and then 31 of 2. An entry of the large one is busy, so that each pick from it searches for a
-// job that preempts it.
-pub fn lane(apart: bool) -> State {
-    let mut s = one_large();
-    let mut i: u64 = 1;
-    while i < 32 {
-        s = with_small(s, second(apart, i), i);
-        i += 1;
-    }
-    let r = scheduler::pick(s, second(apart, 31));
-    r.state
 }

@@ -90,8 +90,11 @@ module _ {jobs : Jobs} {arrivals : JobList} {waits : List ℕ} {ready : List Boo
       place : (s : State) → Matches s jobs arrivals waits ready t y most → arrivedAt s i ≡ x
       place s m = rw (m .arrivals') (getD-take (arrivals .count) (arrivals .jobs) i 0 l ∙ sym here)
 
+      lane-read : (s : State) → Matches s jobs arrivals waits ready t y most → eqb (at (s .jobs .transport) x) t ≡ eqb (at (jobs .transport) x) t
+      lane-read s m = ap (λ g. eqb (at (g .transport) x) t) (m .jobs')
+
       on-read : (s : State) → Matches s jobs arrivals waits ready t y most → arrivedOn s t i ≡ eqb (at (jobs .transport) x) t
-      on-read s m = ap (λ j. eqb (at (s .jobs .transport) j) t) (place s m) ∙ ap (λ g. eqb (at (g .transport) x) t) (m .jobs')
+      on-read s m = ap (λ j. eqb (at (s .jobs .transport) j) t) (place s m) ∙ lane-read s m
 
       best-next : (s : State) → Matches s jobs arrivals waits ready t y most → bestBefore s time t y (i + 1) ≡ better s time t y link x
       unfolding bestBefore
@@ -123,7 +126,7 @@ module _ {jobs : Jobs} {arrivals : JobList} {waits : List ℕ} {ready : List Boo
         where
           same-link : (s : State) → Matches s jobs arrivals waits ready t y most → eqb (at (jobs .transport) x) t ≡ false → better s time t y link x ≡ link
           same-link s m off =
-              let no = no-candidate s jobs waits ready (m .jobs') (m .reads) t y x (omega arith) (ap (λ g. eqb (at (g .transport) x) t) (m .jobs') ∙ off) in
+              let no = no-candidate s jobs waits ready (m .jobs') (m .reads) t y x (omega arith) (lane-read s m ∙ off) in
               better-is s jobs waits ready (m .jobs') (m .reads) t y x (omega arith) time link than of (time - at (jobs .arrival) x + 1) (r .score) refl _ refl
               ∙ if-false (suc x) link (and-left-false _ no)
 
@@ -157,10 +160,7 @@ module _ {jobs : Jobs} {arrivals : JobList} {waits : List ℕ} {ready : List Boo
               best-next s m
               ∙ better-is s jobs waits ready (m .jobs') (m .reads) t y x (omega arith) time link than of age (r .score) is-age ahead is-ahead
               ∙ ap (λ b. if b then suc x else link)
-              (sym (candidate-is s jobs waits ready (m .jobs') (m .reads) t y x (omega arith) most ahead (lane-of s m) (m .most')))
-            where
-              lane-of : (s : State) → Matches s jobs arrivals waits ready t y most → eqb (at (s .jobs .transport) x) t ≡ true
-              lane-of s m = ap (λ g. eqb (at (g .transport) x) t) (m .jobs') ∙ eq-eqb (at (jobs .transport) x) t on
+              (sym (candidate-is s jobs waits ready (m .jobs') (m .reads) t y x (omega arith) most ahead (lane-read s m ∙ eq-eqb (at (jobs .transport) x) t on) (m .most')))
 
           -- x, looked at, and the best after it
           looked-at : (link' : ℕ) → ((s : State) → Matches s jobs arrivals waits ready t y most → link' ≡ bestBefore s time t y (i + 1)) → (s : State) → Matches s jobs arrivals waits ready t y most

@@ -199,11 +199,19 @@ loop-again c =
       refl,
       ⊎-elim
           (λ w.
-          let g : tie.After-leads Inv-loop μ-loop = record { before = record { before = record { before = record { before = record { before = record { before = record { before = record { before = record { before = record { before = record { before = record { before = c .before; if1 = w .0 }; wide32-arg = w .1 }; wide32 = w .2 }; not-above = w .3 }; if2 = w .4 }; wide16-arg = w .5 }; wide16 = w .6 }; candidate-arg = w .7 }; candidate-arg2 = w .8 }; candidate = w .9 }; greater = w .10 }; leads = w .11 } in
+          let a : tie.After-wide32 Inv-loop μ-loop = record { before = record { before = record { before = c .before; if1 = w .0 }; wide32-arg = w .1 }; wide32 = w .2 } in
+          let o : tie.Else2 Inv-loop μ-loop = record { before = record { before = a; not-above = w .3 }; if2 = w .4 } in
+          let m : tie.After-wide16 Inv-loop μ-loop = record { before = record { before = o; wide16-arg = w .5 }; wide16 = w .6 } in
+          let d : tie.After-candidate Inv-loop μ-loop = record { before = record { before = record { before = m; candidate-arg = w .7 }; candidate-arg2 = w .8 }; candidate = w .9 } in
+          let g : tie.After-leads Inv-loop μ-loop = record { before = record { before = d; greater = w .10 }; leads = w .11 } in
           search-is (looked-at g .0 (w .12 .taken)) (now .link) (now .than) (now .of) (now .looked) (w .13) (w .14) (w .15) (w .16))
           (⊎-elim
           (λ w.
-          let g : tie.After-leads Inv-loop μ-loop = record { before = record { before = record { before = record { before = record { before = record { before = record { before = record { before = record { before = record { before = record { before = record { before = c .before; if1 = w .0 }; wide32-arg = w .1 }; wide32 = w .2 }; not-above = w .3 }; if2 = w .4 }; wide16-arg = w .5 }; wide16 = w .6 }; candidate-arg = w .7 }; candidate-arg2 = w .8 }; candidate = w .9 }; greater = w .10 }; leads = w .11 } in
+          let a : tie.After-wide32 Inv-loop μ-loop = record { before = record { before = record { before = c .before; if1 = w .0 }; wide32-arg = w .1 }; wide32 = w .2 } in
+          let o : tie.Else2 Inv-loop μ-loop = record { before = record { before = a; not-above = w .3 }; if2 = w .4 } in
+          let m : tie.After-wide16 Inv-loop μ-loop = record { before = record { before = o; wide16-arg = w .5 }; wide16 = w .6 } in
+          let d : tie.After-candidate Inv-loop μ-loop = record { before = record { before = record { before = m; candidate-arg = w .7 }; candidate-arg2 = w .8 }; candidate = w .9 } in
+          let g : tie.After-leads Inv-loop μ-loop = record { before = record { before = d; greater = w .10 }; leads = w .11 } in
           search-is (looked-at g .1 (w .12 .left)) (now .link) (now .than) (now .of) (now .looked) (w .13) (w .14) (w .15) (w .16))
           (λ w. search-is (passed-by (looped i .loop .inv .1) (i .before .before .loop-test .taken) _ refl (here i .1) (λ e. w .0 .left (ap (at (begun i .args .t1 .transport)) (i .wide .ensures .0) ∙ e)))
           (now .link) (now .than) (now .of) (now .looked) (w .1) (w .2) (w .3) (w .4)))

@@ -1,8 +1,8 @@
 -- The measure is the jobs that are left. Assumes nothing.
 use Prim.Native.Nat.{_≤_, _-_}
 use borrow.Author.Needs.{needs}
-use Rattle.measure.proofs.scene.lane.Statement.{statement}
-use Rattle.measure.proofs.scene.lane.Tie as tie
+use Rattle.measure.proofs.lanes.queued.Statement.{statement}
+use Rattle.measure.proofs.lanes.queued.Tie as tie
 
 abbrev Inv-loop : tie.InvT-loop
 Inv-loop apart s₀ i₀ s i = i ≤ 32
@@ -40,8 +40,8 @@ pick-requires c κs = search needs
 returns : tie.Need-returns Inv-loop μ-loop
 returns c = search needs
 
-pub lane-spec : {M : Type 1} → statement M
-lane-spec =
+pub queued-spec : {M : Type 1} → statement M
+queued-spec =
     tie.close
     (tie.spec
     Inv-loop

@@ -3,8 +3,8 @@ use Prim.Native.Nat.{_≤_, _-_}
 use mathlib.Core.Path.{_≡_}
 use lib.ListN.{length}
 use borrow.Author.Needs.{needs}
-use Rattle.measure.proofs.scene.to_each.Statement.{statement}
-use Rattle.measure.proofs.scene.to_each.Tie as tie
+use Rattle.measure.proofs.lanes.to_each.Statement.{statement}
+use Rattle.measure.proofs.lanes.to_each.Tie as tie
 
 abbrev Inv-loop : tie.InvT-loop
 Inv-loop dests₀ i₀ dests i = (length dests ≡ 256) × (i ≤ 256)
