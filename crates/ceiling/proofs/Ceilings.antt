@@ -28,9 +28,9 @@ module _ {cost : ℕ → ℕ} {g : Columns} {Ahead : ℕ → ℕ → Type 0} (i 
   pub pick-ceiling-free : cost (g .transport j) ≡ 0 → g .lastPick j ≤ g .upto j + g .lastBlocked j
   pick-ceiling-free z = i .noted .ceiling j l .free z
 
-  -- nobody passed over, nobody blocked
-  pub blocked-none : g .lastTotal j ≡ 0 → g .lastBlocked j ≡ 0
-  blocked-none z = omega (arith, i .noted .bounded j l)
+  -- the picks that went past it are no more than the jobs passed over
+  pub blocked-few : g .lastBlocked j ≤ g .lastTotal j
+  blocked-few = i .noted .bounded j l
 
   pub chains-end : endsIn (g .names) (g .rows) (suc j) ≡ true
   chains-end = chain-ends (i .forest) (g .rows) j l (depth-below (i .forest) j l)

@@ -1,16 +1,17 @@
 -- Picks counted by row, and the picks that went past a waiting row.
 use Prim.Native.Nat.{ℕ, suc, _+_, _-_, _≤_, _<_, zero-le}
-use mathlib.Core.Path.{_≡_, refl, sym, _∙_}
-use mathlib.Core.Bool.{Bool, true, false, and-eq-true-iff}
+use mathlib.Core.Path.{_≡_, refl, sym, _∙_, ap, ap₂}
+use mathlib.Core.Bool.{true, and-eq-true-iff}
 use native.Mathlib.Nat.{le-refl, le-of-eq, le-trans}
 use native.Mathlib.Omega.{arith}
+use native.Mathlib.Decide.{decLt}
 use lib.Dec.{eqb, ltb}
 use borrow.Author.Tests.{eqb-true, ltb-true, eq-eqb}
 use Rattle.laws.specs.Bools.{if_then_else_, one}
 use Rattle.laws.specs.Range.{sumTo}
-use Rattle.laws.proofs.Bools.{if-true, if-same, one-within}
-use Rattle.laws.proofs.Update.{at-or-off, upd-same, upd-other, upd-below, upd-all, upd-suc}
-use Rattle.laws.proofs.Sum.{sum-eq, sum-suc, sum-if-zero, sum-if-suc, sum-grow}
+use Rattle.laws.proofs.Bools.{if-true, if-same, if-add, one-within}
+use Rattle.laws.proofs.Update.{at-or-off, upd-same, upd-other, upd-below, upd-all, upd-suc, upd-add}
+use Rattle.laws.proofs.Sum.{sum-eq, sum-add, sum-suc, sum-term, sum-if-all, sum-if-zero, sum-if-suc, sum-grow}
 use Rattle.ceiling.specs.Columns.{Columns, ofTransport, above, beyond}
 use Rattle.ceiling.specs.Steps.{Preempting, Picking, addRow, preempt, pick, lessen}
 use Rattle.ceiling.proofs.Order.{Low, Order, low-self}
@@ -21,8 +22,13 @@ above-true g j r e = let h = and-eq-true-iff (eqb (g .transport r) (g .transport
 pub record Counts (g : Columns) : Type 0 where
   pub counted : (t : ℕ) → g .picks t ≡ ofTransport g t (g .picked) (g .rows)
   pub behind : (j : ℕ) → j < g .rows → 1 ≤ g .waiting j → beyond g j ≤ g .blocked j
-  pub bounded : (j : ℕ) → j < g .rows → g .blocked j ≤ g .total (g .transport j)
+  pub passed : (t : ℕ) → g .total t ≡ ofTransport g t (g .blocked) (g .rows)
   pub sums : (j : ℕ) → j < g .rows → g .upto j ≡ ofTransport g (g .transport j) (g .n) (suc j)
+
+-- a row's share of them is no more than all
+pub blocked-within : {g : Columns} → Counts g → (j : ℕ) → j < g .rows → g .blocked j ≤ g .total (g .transport j)
+blocked-within {g} c j l =
+    rw (c .passed (g .transport j), ← if-true (g .blocked j) 0 (eq-eqb (g .transport j) (g .transport j) refl)) (sum-term _ j (g .rows) l)
 
 module _ {g : Columns} (w : Low g) (c : Counts g) where
   pub counts-add : (t k : ℕ) → Counts (addRow g t k)
@@ -31,7 +37,7 @@ module _ {g : Columns} (w : Low g) (c : Counts g) where
     behind =
         at-or-off _ (g .rows) (λ l q. le-trans (le-of-eq (sum-if-zero _ _ (suc (g .rows)) new)) zero-le)
         (λ j h l q. rw (beyond-add j (omega arith)) (simp upd-other (c .behind j (omega arith) (simp upd-other at q))));
-    bounded = at-or-off _ (g .rows) (λ l. simp upd-same (omega arith)) (λ j h l. simp upd-other (c .bounded j (omega arith)));
+    passed = λ u. c .passed u ∙ sym (sum-grow _ _ (g .rows) (λ i l. simp upd-below) (rw (upd-same (g .blocked)) (if-same _ 0)));
     sums = at-or-off _ (g .rows) (λ l. simp (upd-same, sum-suc, own) (omega (arith, if-true k 0 (eq-eqb t t refl)))) (λ j h l. simp upd-other (c .sums j (omega arith) ∙ older j (omega arith)));
   }
     where
@@ -49,7 +55,7 @@ module _ {g : Columns} (w : Low g) (c : Counts g) where
       beyond-add j q = sum-grow _ _ (g .rows) (λ i l. simp upd-below) (rw (upd-same (g .picked)) (if-same _ 0))
 
   pub counts-preempt : {cost : ℕ → ℕ} {x y m : ℕ} → Preempting cost g x y m → Counts (preempt g x y m)
-  counts-preempt {x = x} {y} {m} p = record { counted = c .counted; behind = λ j l q. rw beyond-preempt (c .behind j l q); bounded = c .bounded; sums = c .sums }
+  counts-preempt {x = x} {y} {m} p = record { counted = c .counted; behind = λ j l q. rw beyond-preempt (c .behind j l q); passed = c .passed; sums = c .sums }
     where
       each : (j i : ℕ) → (if above (preempt g x y m) j i then g .picked i else 0) ≡ (if above g j i then g .picked i else 0)
       each j = at-or-off _ x (rw (p .unpicked) (if-same _ 0 ∙ sym (if-same _ 0))) (λ r h. simp upd-other)
@@ -57,7 +63,7 @@ module _ {g : Columns} (w : Low g) (c : Counts g) where
       beyond-preempt : (j : ℕ) → beyond (preempt g x y m) j ≡ beyond g j
       beyond-preempt j = sum-eq _ _ (g .rows) (λ i l. each j i)
 
-  module _ {Ahead : ℕ → ℕ → Type 0} {x k : ℕ} {by : ℕ → Bool} (p : Picking g Ahead x k by) where
+  module _ {Ahead : ℕ → ℕ → Type 0} {x k : ℕ} {by : ℕ → ℕ} (p : Picking g Ahead x k by) where
     beyond-pick : (j : ℕ) → beyond (pick g x k by) j ≡ beyond g j + one (above g j x)
     beyond-pick j = sum-if-suc _ (g .picked) x (g .rows) (p .inside)
 
@@ -68,8 +74,8 @@ module _ {g : Columns} (w : Low g) (c : Counts g) where
     unfolding one
     counts-pick o = record {
       counted = λ t. omega (arith, upd-suc (g .picks) (g .transport x) t, sum-if-suc (λ r. eqb (g .transport r) t) (g .picked) x (g .rows) (p .inside), c .counted t);
-      behind = λ j l q. let v = le-trans q (waits-less j) in omega (arith, beyond-pick j, c .behind j l v, one-within (above g j x) (one (by j)) (λ e. seen j l v (above-true g j x e) (by j) refl));
-      bounded = λ j l. passed j l (by j) refl;
+      behind = λ j l q. let v = le-trans q (waits-less j) in omega (arith, beyond-pick j, c .behind j l v, one-within (above g j x) (by j) (λ e. seen j l v (above-true g j x e)));
+      passed = λ t. grown t;
       sums = c .sums;
     }
       where
@@ -77,17 +83,22 @@ module _ {g : Columns} (w : Low g) (c : Counts g) where
         waits-less = upd-all (λ j v. v ≤ g .waiting j) (g .waiting) x (g .waiting x - 1) (omega arith) (λ j h. le-refl _)
 
         -- a waiting row below the low of x was passed
-        seen : (j : ℕ) → j < g .rows → 1 ≤ g .waiting j → (g .transport x ≡ g .transport j) × (j < g .low x) → (b : Bool) → by j ≡ b → 1 ≤ one b
-        seen j l v h true e = omega arith
-        seen j l v h false e =
-            let s = low-self w x (p .inside) in
-            let a = p .first j l (sym (h .0)) v (omega arith) e in
-            omega (arith, o .below x j a (omega arith))
+        seen : (j : ℕ) → j < g .rows → 1 ≤ g .waiting j → (g .transport x ≡ g .transport j) × (j < g .low x) → 1 ≤ by j
+        seen j l v h = elim (decLt 0 (by j)) [
+          | yes q ↦ q
+          | no q ↦
+              let s = low-self w x (p .inside) in
+              let a = p .first j l (sym (h .0)) v (omega arith) (omega arith) in
+              absurd (omega (arith, o .below x j a (omega arith)))
+        ]
 
-        passed : (j : ℕ) → j < g .rows → (b : Bool) → by j ≡ b → g .blocked j + one b ≤ (pick g x k by) .total (g .transport j)
-        passed j l true e = let b = c .bounded j l in let s = p .same j l e in rw (s, upd-same) (omega (arith, p .some j l e, rw s at b))
-        passed j l false e =
-            omega (arith, c .bounded j l, upd-all (λ t v. g .total t ≤ v) (g .total) (g .transport x) (g .total (g .transport x) + k) (omega arith) (λ t h. le-refl _) (g .transport j))
+        -- the rows gone past are all of x's transport
+        grown : (t : ℕ) → (pick g x k by) .total t ≡ ofTransport (pick g x k by) t ((pick g x k by) .blocked) (g .rows)
+        grown t =
+            upd-add (g .total) (g .transport x) k t
+            ∙ ap₂ _+_ (c .passed t) (ap (λ n. if eqb (g .transport x) t then n else 0) (sym (p .number)) ∙ sym (sum-if-all (eqb (g .transport x) t) by (g .rows)))
+            ∙ sym (sum-add _ _ (g .rows))
+            ∙ sum-eq _ _ (g .rows) (λ r l. sym (if-add (eqb (g .transport r) t) (eqb (g .transport x) t) (g .blocked r) (by r) (λ q. ap (λ v. eqb v t) (p .same r l q))))
 
   pub counts-lessen : (v : ℕ → ℕ) → ((r : ℕ) → r < g .rows → v r ≤ g .waiting r) → Counts (lessen g v)
-  counts-lessen v h = record { counted = c .counted; behind = λ j l q. c .behind j l (le-trans q (h j l)); bounded = c .bounded; sums = c .sums }
+  counts-lessen v h = record { counted = c .counted; behind = λ j l q. c .behind j l (le-trans q (h j l)); passed = c .passed; sums = c .sums }

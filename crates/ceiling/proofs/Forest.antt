@@ -2,7 +2,6 @@
 use Prim.Native.Nat.{ℕ, suc, _+_, _*_, _≤_, _<_, min}
 use mathlib.Core.Path.{_≡_, refl, sym, ap, subst, _∙_}
 use mathlib.Core.Logic.{_≢_}
-use mathlib.Core.Bool.{Bool}
 use native.Mathlib.Nat.{suc-inj, le-refl, le-trans}
 use native.Mathlib.Omega.{arith}
 use lib.Dec.{eqb}
@@ -121,7 +120,7 @@ module _ {cost : ℕ → ℕ} {g : Columns} (f : Forest cost g) where
         still : (z : ℕ) → z < g .rows → cost (g .transport z) * sold (preempt g x y m) z ≤ g .cap z
         still = at-or-off _ y (λ l. rw sold-preempt-own (omega (arith, p .pays, f .room y l))) (λ z h l. rw (sold-preempt-other z h) (f .paid z l))
 
-  module _ {Ahead : ℕ → ℕ → Type 0} {x k : ℕ} {past : ℕ → Bool} (p : Picking g Ahead x k past) where
+  module _ {Ahead : ℕ → ℕ → Type 0} {x k : ℕ} {past : ℕ → ℕ} (p : Picking g Ahead x k past) where
     pub forest-pick : Forest cost (pick g x k past)
     forest-pick = record {
       room = at-or-off _ x (λ l. simp upd-same (omega (arith, p .waits, f .room x l))) (λ r h l. simp upd-other (f .room r l));

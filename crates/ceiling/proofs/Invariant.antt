@@ -2,7 +2,6 @@
 use Prim.Native.Nat.{ℕ, _≤_, _<_}
 use mathlib.Core.Path.{_≡_, refl}
 use mathlib.Core.Logic.{_⊎_}
-use mathlib.Core.Bool.{Bool}
 use native.Mathlib.Nat.{not-suc-le-zero}
 use native.Mathlib.Omega.{arith}
 use Rattle.laws.specs.Range.{sumTo}
@@ -29,7 +28,7 @@ inv-fresh cost none = record {
   overtaken = record { sums = λ y l. omega arith; paid = λ y l. omega arith };
   low = record { alone = λ r l. absurd (not-suc-le-zero l); under = λ r y l. absurd (not-suc-le-zero l) };
   order = record { within = λ a b q. absurd (none a b q); below = λ a b q. absurd (none a b q) };
-  counts = record { counted = λ t. refl; behind = λ j l. absurd (not-suc-le-zero l); bounded = λ j l. omega arith; sums = λ j l. absurd (not-suc-le-zero l) };
+  counts = record { counted = λ t. refl; behind = λ j l. absurd (not-suc-le-zero l); passed = λ t. refl; sums = λ j l. absurd (not-suc-le-zero l) };
   noted = record { ceiling = λ j l. absurd (not-suc-le-zero l); bounded = λ j l. omega arith };
 }
 
@@ -58,7 +57,7 @@ module _ {cost : ℕ → ℕ} {g : Columns} {Ahead Ahead' : ℕ → ℕ → Type
   inv-leave h = record { forest = i .forest; overtaken = i .overtaken; low = i .low; order = order-leave (i .order) h; counts = i .counts; noted = i .noted }
 
 module _ {cost : ℕ → ℕ} {g : Columns} {Ahead : ℕ → ℕ → Type 0} (i : Inv cost g Ahead) where
-  pub inv-pick : {x k : ℕ} {past : ℕ → Bool} → Picking g Ahead x k past → Inv cost (pick g x k past) Ahead
+  pub inv-pick : {x k : ℕ} {past : ℕ → ℕ} → Picking g Ahead x k past → Inv cost (pick g x k past) Ahead
   inv-pick p = record {
     forest = forest-pick (i .forest) p;
     overtaken = record { sums = i .overtaken .sums; paid = i .overtaken .paid };

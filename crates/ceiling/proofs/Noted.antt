@@ -1,14 +1,13 @@
 -- What is noted at a row's last pick stays right.
-use Prim.Native.Nat.{ℕ, suc, _≤_, _<_, zero-le}
+use Prim.Native.Nat.{ℕ, suc, _+_, _≤_, _<_, zero-le}
 use mathlib.Core.Path.{sym, _∙_}
-use mathlib.Core.Bool.{Bool}
 use native.Mathlib.Omega.{arith}
 use Rattle.laws.proofs.Update.{at-or-off, upd-same, upd-other}
 use Rattle.ceiling.specs.Columns.{Columns}
 use Rattle.ceiling.specs.Steps.{Picking, addRow, pick}
 use Rattle.ceiling.proofs.Forest.{Forest, forest-pick}
 use Rattle.ceiling.proofs.Order.{Low, Order}
-use Rattle.ceiling.proofs.Counts.{Counts, counts-pick, beyond-pick-self}
+use Rattle.ceiling.proofs.Counts.{Counts, blocked-within, counts-pick, beyond-pick-self}
 use Rattle.ceiling.proofs.DoubleCount.{Ceiling, count-ceiling}
 
 pub record Noted (cost : ℕ → ℕ) (g : Columns) : Type 0 where
@@ -22,10 +21,10 @@ module _ {cost : ℕ → ℕ} {g : Columns} (n : Noted cost g) where
     bounded = at-or-off _ (g .rows) (λ l. simp upd-same (omega arith)) (λ j h l. simp upd-other (n .bounded j (omega arith)));
   }
 
-  pub noted-pick : {Ahead : ℕ → ℕ → Type 0} {x k : ℕ} {by : ℕ → Bool} → Forest cost g → Low g → Counts g → Order g Ahead → Picking g Ahead x k by → Noted cost (pick g x k by)
+  pub noted-pick : {Ahead : ℕ → ℕ → Type 0} {x k : ℕ} {by : ℕ → ℕ} → Forest cost g → Low g → Counts g → Order g Ahead → Picking g Ahead x k by → Noted cost (pick g x k by)
   noted-pick {x = x} {k} {by} f w c o p = record {
     ceiling = at-or-off _ x (λ l. simp upd-same own) (λ j h l. simp upd-other (n .ceiling j l));
-    bounded = at-or-off _ x (λ l. simp upd-same (omega (arith, c .bounded x l))) (λ j h l. simp upd-other (n .bounded j l));
+    bounded = at-or-off _ x (λ l. simp upd-same (simp upd-same at (blocked-within after x l))) (λ j h l. simp upd-other (n .bounded j l));
   }
     where
       after : Counts (pick g x k by)
@@ -34,7 +33,7 @@ module _ {cost : ℕ → ℕ} {g : Columns} (n : Noted cost g) where
       low : Low (pick g x k by)
       low = record { alone = w .alone; under = w .under }
 
-      own : Ceiling (cost (g .transport x)) (suc (g .picks (g .transport x))) (g .upto x) (g .blocked x)
+      own : Ceiling (cost (g .transport x)) (suc (g .picks (g .transport x))) (g .upto x) (g .blocked x + by x)
       own =
           rw (sym (upd-same (g .picks) (g .transport x) (suc (g .picks (g .transport x)))) ∙ after .counted (g .transport x), after .sums x (p .inside))
-          (count-ceiling (forest-pick f p) low x (g .blocked x) (beyond-pick-self w c p))
+          (count-ceiling (forest-pick f p) low x (g .blocked x + by x) (omega (arith, beyond-pick-self w c p)))

@@ -2,8 +2,7 @@
 use Prim.Native.Nat.{ℕ, suc, _+_, _*_, _-_, _≤_, _<_, min}
 use mathlib.Core.Path.{_≡_}
 use mathlib.Core.Logic.{_≢_}
-use mathlib.Core.Bool.{Bool, true, false}
-use Rattle.laws.specs.Bools.{one}
+use Rattle.laws.specs.Range.{sumTo}
 use Rattle.laws.specs.Chain.{alongChain}
 use Rattle.laws.specs.Update.{upd}
 use Rattle.ceiling.specs.Columns.{Columns, sold, ofTransport}
@@ -89,16 +88,16 @@ preempt g x y m = record {
   lastBlocked = g .lastBlocked;
 }
 
--- when row x may be picked from, past k jobs, the rows that pass the test among them
-pub record Picking (g : Columns) (Ahead : ℕ → ℕ → Type 0) (x k : ℕ) (past : ℕ → Bool) : Type 0 where
+-- when row x may be picked from, past k jobs: how often it goes past each row adds up to k
+pub record Picking (g : Columns) (Ahead : ℕ → ℕ → Type 0) (x k : ℕ) (past : ℕ → ℕ) : Type 0 where
   pub inside : x < g .rows
   pub waits : 1 ≤ g .waiting x
-  pub same : (j : ℕ) → j < g .rows → past j ≡ true → g .transport j ≡ g .transport x
-  pub some : (j : ℕ) → j < g .rows → past j ≡ true → 1 ≤ k
-  pub first : (j : ℕ) → j < g .rows → g .transport j ≡ g .transport x → 1 ≤ g .waiting j → j ≢ x → past j ≡ false → Ahead x j
+  pub same : (j : ℕ) → j < g .rows → 1 ≤ past j → g .transport j ≡ g .transport x
+  pub number : sumTo past (g .rows) ≡ k
+  pub first : (j : ℕ) → j < g .rows → g .transport j ≡ g .transport x → 1 ≤ g .waiting j → j ≢ x → past j ≡ 0 → Ahead x j
 
--- a pick from row x, past k jobs, the rows that pass the test among them
-abbrev pub pick : Columns → ℕ → ℕ → (ℕ → Bool) → Columns
+-- a pick from row x, past k jobs
+abbrev pub pick : Columns → ℕ → ℕ → (ℕ → ℕ) → Columns
 pick g x k past = record {
   rows = g .rows;
   transport = g .transport;
@@ -111,12 +110,12 @@ pick g x k past = record {
   over = g .over;
   low = g .low;
   depth = g .depth;
-  blocked = λ j. g .blocked j + one (past j);
+  blocked = λ j. g .blocked j + past j;
   picks = upd (g .picks) (g .transport x) (suc (g .picks (g .transport x)));
   total = upd (g .total) (g .transport x) (g .total (g .transport x) + k);
   lastPick = upd (g .lastPick) x (suc (g .picks (g .transport x)));
   lastTotal = upd (g .lastTotal) x (g .total (g .transport x) + k);
-  lastBlocked = upd (g .lastBlocked) x (g .blocked x);
+  lastBlocked = upd (g .lastBlocked) x (g .blocked x + past x);
 }
 
 -- fewer entries waiting

@@ -1,7 +1,7 @@
 -- Laws of if, one and the Boolean operations.
-use Prim.Native.Nat.{ℕ, _+_, _≤_, _<_}
+use Prim.Native.Nat.{ℕ, zero, suc, _+_, _≤_, _<_}
 use mathlib.Core.Bool.{Bool, true, false, not, _&&_, _||_, true≢false}
-use mathlib.Core.Path.{_≡_, refl, sym, _∙_}
+use mathlib.Core.Path.{_≡_, refl, sym, _∙_, ap}
 use mathlib.Core.Logic.{_⊎_, inl, inr}
 use native.Mathlib.Omega.{arith}
 use lib.Dec.{eqb}
@@ -114,6 +114,19 @@ pub if-le : (b c : Bool) (x y : ℕ) → (b ≡ true → (c ≡ true) × (x ≤ 
 unfolding if_then_else_
 if-le true c x y h = rw (h refl .0) (h refl .1)
 if-le false c x y h = omega arith
+
+-- two parts under two tests that agree wherever the second part counts
+pub if-add : (b c : Bool) (x y : ℕ) → (1 ≤ y → b ≡ c) → (if b then x + y else 0) ≡ (if b then x else 0) + (if c then y else 0)
+unfolding if_then_else_
+if-add b c x y h = both b ∙ ap (λ n. (if b then x else 0) + n) (same y h)
+  where
+    both : (b : Bool) → (if b then x + y else 0) ≡ (if b then x else 0) + (if b then y else 0)
+    both true = refl
+    both false = refl
+
+    same : (y : ℕ) → (1 ≤ y → b ≡ c) → (if b then y else 0) ≡ (if c then y else 0)
+    same zero h = if-same b 0 ∙ sym (if-same c 0)
+    same (suc y) h = rw (h (omega arith))
 
 -- one
 

@@ -1,18 +1,18 @@
 -- Laws of firstOf and upTo.
 use Prim.Native.Nat.{ℕ, zero, suc, _<_}
-use mathlib.Core.Bool.{Bool, true, not}
-use mathlib.Core.Path.{_≡_, refl, _∙_, ap, subst}
+use mathlib.Core.Bool.{Bool, true, false, not}
+use mathlib.Core.Path.{_≡_, refl, sym, _∙_, ap, subst}
 use mathlib.Core.Logic.{_⊎_, inl, inr, ⊎-elim, _≢_}
 use mathlib.Core.List.{List, [], _∷_, _++_}
 use native.Mathlib.Nat.{not-suc-le-zero}
 use native.Mathlib.Omega.{arith}
 use lib.Dec.{eqb}
 use lib.ListN.{length, getD, take, drop}
-use borrow.Author.Tests.{ne-eqb, not-true}
+use borrow.Author.Tests.{eqb-true, ne-eqb, not-true}
 use Rattle.laws.specs.Bools.{if_then_else_}
-use Rattle.laws.specs.Sequence.{holds, firstOf, upTo, everyIn}
+use Rattle.laws.specs.Sequence.{keep, holds, firstOf, upTo, everyIn}
 use Rattle.laws.proofs.Bools.{true-not-false, case-bool, not-is-true, and-both, if-true, if-false, eqb-self}
-use Rattle.laws.proofs.Sequence.{holds-head, holds-tail, holds-append-left, every-at}
+use Rattle.laws.proofs.Sequence.{holds-head, holds-tail, lacks-head, lacks-tail, holds-append-left, every-at}
 
 -- what firstOf finds: an element that passes, or nothing passes
 pub first-of-cases : (p : ℕ → Bool) (l : List ℕ) (other : ℕ)
@@ -71,6 +71,21 @@ module _ (y : ℕ) where
   unfolding upTo if_then_else_
   up-to-rest [] = refl
   up-to-rest (x ∷ l) = case-bool (eqb x y) (λ t. rw t) (λ f. rw (f, up-to-rest l))
+
+  -- what is kept before y, where y is kept
+  pub up-to-keep : (p : ℕ → Bool) (l : List ℕ) → p y ≡ true → upTo y (keep p l) ≡ keep p (upTo y l)
+  unfolding upTo keep if_then_else_
+  up-to-keep p [] h = refl
+  up-to-keep p (x ∷ l) h =
+      case-bool (eqb x y)
+      (λ t. rw (t, rw (← eqb-true x y t) at h, t))
+      (λ f. case-bool (p x) (λ k. rw (f, k, f, up-to-keep p l h)) (λ k. rw (f, k, up-to-keep p l h)))
+
+  -- what stands before y, where y does not stand in a
+  pub up-to-seam : (a l : List ℕ) → holds y a ≡ false → upTo y (a ++ (y ∷ l)) ≡ a
+  unfolding upTo if_then_else_
+  up-to-seam [] l h = rw (eqb-self y)
+  up-to-seam (x ∷ a) l h = rw (ne-eqb x y (λ e. lacks-head y x a h (sym e)), up-to-seam a l (lacks-tail y x a h))
 
   pub up-to-in : (x : ℕ) (l : List ℕ) → holds x (upTo y l) ≡ true → holds x l ≡ true
   up-to-in x l h = subst (λ m. holds x m ≡ true) (up-to-rest l) (holds-append-left x (upTo y l) (drop (length (upTo y l)) l) h)

@@ -11,10 +11,10 @@ use lib.ListN.{length, drop, length-append}
 use borrow.Author.Tests.{eqb-false, eq-eqb, ne-eqb}
 use Rattle.laws.specs.Bools.{if_then_else_, one}
 use Rattle.laws.specs.Sequence.{keep, holds, timesIn, everyIn, upTo, insertBefore, moveBefore}
-use Rattle.laws.proofs.Bools.{true-not-false, case-bool, bool-same, or-left, or-right, or-cases, one-true, one-false, eqb-self, if-true, if-false}
-use Rattle.laws.proofs.Sequence.{holds-rest, holds-of-times, holds-same-times, times-append, times-cons, times-positive, lacks-head, lacks-tail, every-same-times}
-use Rattle.laws.proofs.Keep.{remove-times-self, remove-times-other, remove-holds, length-remove}
-use Rattle.laws.proofs.FirstOf.{up-to-rest}
+use Rattle.laws.proofs.Bools.{true-not-false, false-of, case-bool, bool-same, not-is-true, or-left, or-right, or-cases, one-true, one-false, eqb-self, if-true, if-false}
+use Rattle.laws.proofs.Sequence.{holds-rest, holds-of-times, holds-same-times, times-append, times-cons, times-positive, lacks-head, lacks-tail, every-from, every-same-times}
+use Rattle.laws.proofs.Keep.{keep-all, remove-times-self, remove-times-other, remove-holds, remove-lacks, length-remove}
+use Rattle.laws.proofs.FirstOf.{up-to-rest, up-to-keep, up-to-seam, up-to-in}
 
 module _ (x y : ℕ) where
   pub insert-here : {z : ℕ} (l : List ℕ) → z ≡ y → insertBefore x y (z ∷ l) ≡ x ∷ z ∷ l
@@ -67,6 +67,17 @@ module _ (x y : ℕ) where
       (λ k.
       holds-of-times z (insertBefore x y l)
       (⊎-elim (λ t. omega (arith, one-true t)) (λ t. omega (arith, times-positive z l t)) (or-cases (eqb z x) (holds z l) k)))
+
+  -- what stands before x once it has been moved: where it did not stand there before, what stands before y
+  pub up-to-move : (l : List ℕ) → x ≢ y → holds y l ≡ true → holds x (upTo y l) ≡ false → upTo x (moveBefore x y l) ≡ upTo y l
+  unfolding moveBefore
+  up-to-move l ne hy off =
+      let m = keep (λ z. not (eqb z x)) l in
+      ap (upTo x) (insert-split m (remove-holds x y l (λ e. ne (sym e)) hy))
+      ∙ up-to-seam x (upTo y m) (drop (length (upTo y m)) m) (false-of λ h. true-not-false (up-to-in y x m h) (remove-lacks x l))
+      ∙ up-to-keep y (λ z. not (eqb z x)) l (not-is-true (ne-eqb y x (λ e. ne (sym e))))
+      ∙ keep-all (λ z. not (eqb z x)) (upTo y l)
+      (every-from (λ z. not (eqb z x)) (upTo y l) λ z h. not-is-true (ne-eqb z x λ e. true-not-false (rw (← e) h) off))
 
   -- y stands in the list, and x just once
   module _ (l : List ℕ) (ne : x ≢ y) (hx : timesIn x l ≡ 1) (hy : holds y l ≡ true) where

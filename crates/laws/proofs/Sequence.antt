@@ -183,6 +183,14 @@ module _ (p : ℕ → Bool) where
   count-in-pos-of [] x h t = true-not-false h refl
   count-in-pos-of (y ∷ l) x h t = ⊎-elim (λ e. omega (arith, one-true (rw e at t))) (λ k. omega (arith, count-in-pos-of l x k t)) (holds-cases x y l h)
 
+  pub count-in-witness : (l : List ℕ) → 1 ≤ countIn p l → (x : ℕ) × (holds x l ≡ true) × (p x ≡ true)
+  unfolding countIn
+  count-in-witness [] h = absurd (not-suc-le-zero h)
+  count-in-witness (y ∷ l) h =
+      case-bool (p y)
+      (λ t. (y, holds-head y l, t))
+      (λ f. let w = count-in-witness l (omega (arith, one-false f)) in (w .0, holds-tail (w .0) y l (w .1), w .2))
+
 module _ (p q : ℕ → Bool) where
   pub count-in-same : (l : List ℕ) → ((x : ℕ) → holds x l ≡ true → p x ≡ q x) → countIn p l ≡ countIn q l
   unfolding countIn

@@ -6,7 +6,7 @@ use native.Mathlib.Decide.{ℕ-discrete}
 use native.Mathlib.Omega.{arith}
 use lib.Dec.{eqb}
 use borrow.Author.Tests.{eq-eqb, ne-eqb}
-use Rattle.laws.specs.Bools.{one}
+use Rattle.laws.specs.Bools.{if_then_else_, one}
 use Rattle.laws.specs.Update.{upd}
 use Rattle.laws.proofs.Bools.{if-true, if-false}
 
@@ -44,3 +44,8 @@ upd-agree f g {k = k} {w = w} p q h i = rw (p, q) (upd-agree-at f g k w i (h i))
 pub upd-suc : (f : ℕ → ℕ) (j i : ℕ) → upd f j (suc (f j)) i ≡ f i + one (eqb j i)
 unfolding one
 upd-suc f j = upd-all (λ i v. v ≡ f i + one (eqb j i)) f j (suc (f j)) (rw (eq-eqb j j refl) (omega arith)) (λ i h. rw (ne-eqb j i (λ e. h (sym e))) (omega arith))
+
+-- k more at j
+pub upd-add : (f : ℕ → ℕ) (j k i : ℕ) → upd f j (f j + k) i ≡ f i + (if eqb j i then k else 0)
+unfolding if_then_else_
+upd-add f j k = upd-all (λ i v. v ≡ f i + (if eqb j i then k else 0)) f j (f j + k) (rw (eq-eqb j j refl)) (λ i h. rw (ne-eqb j i (λ e. h (sym e))) (omega arith))

@@ -1,5 +1,5 @@
 -- Demand 3, proved for every accepted set-up and every list of calls.
-use Prim.Native.Nat.{ℕ, _-_, _≤_, _<_}
+use Prim.Native.Nat.{ℕ, _≤_, _<_}
 use mathlib.Core.Path.{_≡_, refl, sym, _∙_, ap, ap₂, subst}
 use mathlib.Core.Bool.{true}
 use mathlib.Core.List.{List, [], _∷_}
@@ -9,7 +9,7 @@ use native.Mathlib.Omega.{arith}
 use lib.ListN.{length}
 use Rattle.laws.specs.Bools.{if_then_else_}
 use Rattle.laws.proofs.All.{any-witness}
-use Rattle.ceiling.proofs.Ceilings.{over-ceiling, over-within, over-ceiling-free, pick-ceiling, pick-ceiling-free, blocked-none}
+use Rattle.ceiling.proofs.Ceilings.{over-ceiling, over-within, over-ceiling-free, pick-ceiling, pick-ceiling-free, blocked-few}
 use Rattle.rules.specs.declared.Setup.{Setup}
 use Rattle.rules.specs.declared.State.{State}
 use Rattle.rules.specs.Sizes.{maxEntries}
@@ -20,16 +20,16 @@ use Rattle.rules.specs.SoundFacts.{Sound}
 use Rattle.rules.specs.Windows.{woken}
 use Rattle.rules.specs.Refusals.{askRefusal}
 use Rattle.rules.specs.Calls.{Call, ask, granted, unlessRefused, replyTo}
-use Rattle.rules.specs.Tally.{Tally, rowAt, rowOf, linkedRow}
+use Rattle.rules.specs.Tally.{Tally, rowAt, rowOf, linkedRow, sumOn}
 use Rattle.rules.specs.History.{stateAfter}
-use Rattle.rules.specs.Demand3.{Ceilings, Demand3, Companions, Demand3Holds, costFor}
+use Rattle.rules.specs.Demand3.{Ceilings, OldFollows, Demand3, Companions, Demand3Holds, costFor}
 use Rattle.rules.proofs.Shape.{Shaped, present-below}
 use Rattle.rules.proofs.Soundness.{sound-of}
 use Rattle.rules.proofs.EntryTests.{used-not-free, used-job}
 use Rattle.rules.proofs.RangeFacts.{slots-range}
 use Rattle.rules.proofs.Refused.{refusal-answered, sound-not-1}
 use Rattle.rules.proofs.Sim.{costIn}
-use Rattle.rules.proofs.SimRows.{row-inside}
+use Rattle.rules.proofs.SimRows.{row-inside, sum-on}
 use Rattle.rules.proofs.Picked.{finds-some}
 use Rattle.rules.proofs.KeptWaking.{kept-woken}
 use Rattle.rules.proofs.Accepted.{pick-accepted}
@@ -46,15 +46,21 @@ ceilings-at {u} {s} {y} r i l =
     record {
       overtakers = λ h. rw (w .overtakers, w .n, cost) (over-ceiling (r .sim .inv) i inside (subst (λ c. 2 ≤ c) cost h));
       nobody = λ h. w .overtakers ∙ over-ceiling-free (r .sim .inv) i inside (sym cost ∙ h);
-      lastpick = λ z h.
-          (let none = blocked-none (r .sim .inv) i inside (sym (w .lasttotal) ∙ z) in
-          let c = pick-ceiling (r .sim .inv) i inside (subst (λ c. 2 ≤ c) cost h) in
-          rw (w .lastpick, w .upto, cost) (omega arith));
-      lastpickoff = λ z h.
-          (let none = blocked-none (r .sim .inv) i inside (sym (w .lasttotal) ∙ z) in
-          let c = pick-ceiling-free (r .sim .inv) i inside (sym cost ∙ h) in
-          rw (w .lastpick, w .upto) (omega arith));
+      lastpick = λ h. rw (w .lastpick, w .upto, w .lastpast, cost) (pick-ceiling (r .sim .inv) i inside (subst (λ c. 2 ≤ c) cost h));
+      lastpickoff = λ h. rw (w .lastpick, w .upto, w .lastpast) (pick-ceiling-free (r .sim .inv) i inside (sym cost ∙ h));
+      past = rw (w .lastpast, w .lasttotal) (blocked-few (r .sim .inv) i inside);
     }
+
+-- where the noted total is 0, P is 0
+pub old-follows : OldFollows
+old-follows c r h z =
+    let none : r .lastpast ≡ 0 = omega (arith, h .past) in
+    record { past = none; lastpick = λ d. omega (arith, h .lastpick d); lastpickoff = λ f. omega (arith, h .lastpickoff f) }
+
+-- the picks that went past a transport's rows
+counted-at : {u : Setup} {s : State} {y : Tally} → Reached u s y → (t : ℕ) → sumOn t (λ r. r .past) (y .rows) ≡ y .total t
+counted-at r t =
+    sum-on (r .sim) t (λ r. r .past) (r .columns .blocked) (λ i l. r .sim .row i l .past) ∙ sym (r .sim .inv .counts .passed t) ∙ sym (r .sim .total t)
 
 -- asking about a present job of a sound state is accepted
 ask-accepted : (s : State) (j : ℕ) → sound s ≡ true → isPresent s j ≡ true → replyTo s (ask j) .says ≡ granted (at (s .jobs .overtakers) j ∷ [])
@@ -75,6 +81,7 @@ pub demand3 : (u : Setup) → setupInRange u ≡ true → (calls : List Call) �
 demand3 u h calls =
     record {
       ceilings = ceilings-at (reached u h calls);
+      counted = counted-at (reached u h calls);
       asking = λ before after e. asking-at (reached u h before);
     }
 

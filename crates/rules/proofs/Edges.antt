@@ -1,5 +1,5 @@
 -- The rules at the edges that document 01 names, computed: where a definition is off by one, or tests the wrong way, its edge is not what the paper says.
-use Prim.Native.Nat.{ℕ, _+_, _-_}
+use Prim.Native.Nat.{ℕ, suc, _+_, _-_}
 use mathlib.Core.Path.{_≡_, refl}
 use mathlib.Core.Bool.{true, false}
 use mathlib.Core.List.{List, [], _∷_, foldl}
@@ -16,21 +16,24 @@ use Rattle.rules.specs.declared.Health.the-variants.{Live, Dead}
 use Rattle.rules.specs.declared.Outcome.{Outcome}
 use Rattle.rules.specs.declared.Outcome.the-variants.{Success, Failure}
 use Rattle.rules.specs.declared.Move.{Move}
+use Rattle.rules.specs.declared.JobList.{JobList}
 use Rattle.rules.specs.declared.Jobs.{Jobs}
 use Rattle.rules.specs.declared.State.{State}
 use Rattle.rules.specs.Sizes.{U}
-use Rattle.rules.specs.State.{at, listOf, waitingOf}
+use Rattle.rules.specs.State.{at, listOf, listed, queueOf, waitingOf}
 use Rattle.rules.specs.Setup.{settingsInRange}
 use Rattle.rules.specs.Windows.{feedback, cohortShare, isDeadAt, afterFailure, stepped, wokenHealth}
 use Rattle.rules.specs.Sound.{sumsFit}
-use Rattle.rules.specs.Preemption.{hasCredit, isCandidate, beats, better, bestBefore, notAbove, searchEnd, lookedAt, paysFor, longEnough}
-use Rattle.rules.specs.Pick.{pickedJobs, nobody, preemption}
+use Rattle.rules.specs.Picking.{isBlocked, wentPast}
+use Rattle.rules.specs.Preemption.{hasCredit, isCandidate, beats, better, bestBefore, notAbove, searchEnd, lookedAt, paysFor, longEnough, preempting}
+use Rattle.rules.specs.Pick.{pickedJobs, nobody, preemption, pickFrom, pickWith}
 use Rattle.rules.specs.Calls.{took, picked}
 use Rattle.rules.specs.Tally.{tallied, noTally}
 use Rattle.rules.specs.Demand3.{Ceilings}
 use Rattle.rules.specs.Examples.{flat, perWindow, squareRoot, usual, sums, given, expected, Exact}
 use Rattle.rules.specs.Tallies.{row}
 use Rattle.rules.proofs.Roots.{root-is}
+use Rattle.rules.proofs.Preempted.{preempting-blocked}
 use Rattle.rules.proofs.Opened.{ranges, sequences, setups, windows, soundness, reports, tallies, runs, shows}
 
 -- Settings with these, everything else at its least.
@@ -203,64 +206,82 @@ search-edge s h =
       simp (h .ranks, l .0, l .1, l .2, l .3, l .4, c .0, c .1, c .2, c .3, a .0, a .1, a .2, h .waiting) refl,
     )
 
+-- What a pick goes past (A13): transport 0 has the list 0 1 2 3, jobs 0 and 2 are blocked, job 1 is current. "Positions are those .. after the preempting job
+-- has been moved": where job 3 preempts, the list is 0 3 1 2, and it goes past job 0 alone; from where it stood, it would go past job 2 as well.
+pub past-edge : (s : State) (rest : List JobList) → s .queues ≡ listed (0 ∷ 1 ∷ 2 ∷ 3 ∷ []) ∷ rest → isBlocked s 0 ≡ true → isBlocked s 1 ≡ false → isBlocked s 2 ≡ true
+    → (pickWith s 0 1 0 .found .past ≡ 0 ∷ []) × (pickWith s 0 1 (suc 3) .found .past ≡ 0 ∷ []) × (wentPast s 0 3 ≡ 0 ∷ 2 ∷ [])
+unfolding ranges sequences wentPast pickFrom pickWith
+past-edge s rest q a b c = simp (moved-list, q, preempting-blocked, a, b, c) (refl, refl, refl)
+  where
+    moved-list : queueOf (preempting s 0 3 1 (waitingOf s 3)) 0 ≡ 0 ∷ 3 ∷ 1 ∷ 2 ∷ []
+    moved-list = unfold preempting in rw q refl
+
 -- "destinations .. take turns after the last one picked": from place 2 of job 0's order, the next turn is from place 3 on
 pub turn-edge : (g : Jobs) (x : ℕ) (rest : List ℕ) → g .turn ≡ x ∷ rest → at (pickedJobs g 0 2 .turn) 0 ≡ 3
 turn-edge g x rest e = rw e refl
 
 -- The tally, fed with decisions: job 1 preempts job 0 with 4 waiting, then job 3 preempts job 1 with 2, which count for job 0 too. Job 2 is on
--- transport 1. The third pick of transport 0 passes one job over, the fourth two.
+-- transport 1. The third pick of transport 0 passes one job over and goes past it, job 0, though it preempts; the fourth two, jobs 1 and 3. So job 0 notes
+-- one pick that went past it, and its own is not among them.
 pub tally-rows :
     foldl tallied noTally
     (took 0 0 20
     ∷ took 1 0 4
     ∷ took 2 1 3
     ∷ took 3 0 2
-    ∷ picked 0 0 nobody
-    ∷ picked 1 0 (preemption 1 0 4)
-    ∷ picked 2 0 nobody
-    ∷ picked 3 1 (preemption 3 1 2)
-    ∷ picked 0 2 nobody
+    ∷ picked 0 0 [] nobody
+    ∷ picked 1 0 [] (preemption 1 0 4)
+    ∷ picked 2 0 [] nobody
+    ∷ picked 3 1 (0 ∷ []) (preemption 3 1 2)
+    ∷ picked 0 2 (1 ∷ 3 ∷ []) nobody
     ∷ [])
     .rows
-    ≡ row 0 0 20 20 6 0 4 3
-    ∷ row 1 0 4 24 2 1 2 0
-    ∷ row 2 1 3 3 0 0 1 0
-    ∷ row 3 0 2 26 0 2 3 1
+    ≡ row 0 0 20 20 6 0 1 4 3 1
+    ∷ row 1 0 4 24 2 1 1 2 0 0
+    ∷ row 2 1 3 3 0 0 0 1 0 0
+    ∷ row 3 0 2 26 0 2 1 3 1 0
     ∷ []
 unfolding ranges sequences tallies runs
 tally-rows = refl
 
--- The ceilings are reached and not passed. With n 8 and N 20 they are 8/4 and 20 + 20/4 for c = 5, and 0 and 20 for c = 0; where somebody was
--- passed over, the last pick has none.
+-- The ceilings are reached and not passed. With n 8 and N 20 they are 8/4 and 20 + 20/4 + P for c = 5, and 0 and 20 + P for c = 0. P is at most the
+-- noted total.
 pub ceilings-edge :
-    Ceilings 5 (row 0 0 8 20 2 0 25 0)
-    × (Ceilings 5 (row 0 0 8 20 3 0 25 0) → ⊥)
-    × (Ceilings 5 (row 0 0 8 20 2 0 26 0) → ⊥)
-    × Ceilings 5 (row 0 0 8 20 2 0 26 1)
-    × Ceilings 0 (row 0 0 8 20 0 0 20 0)
-    × (Ceilings 0 (row 0 0 8 20 1 0 20 0) → ⊥)
-    × (Ceilings 0 (row 0 0 8 20 0 0 21 0) → ⊥)
+    Ceilings 5 (row 0 0 8 20 2 0 0 25 0 0)
+    × (Ceilings 5 (row 0 0 8 20 3 0 0 25 0 0) → ⊥)
+    × (Ceilings 5 (row 0 0 8 20 2 0 0 26 1 0) → ⊥)
+    × Ceilings 5 (row 0 0 8 20 2 0 1 26 1 1)
+    × (Ceilings 5 (row 0 0 8 20 2 0 1 27 1 1) → ⊥)
+    × (Ceilings 5 (row 0 0 8 20 2 0 1 25 0 1) → ⊥)
+    × Ceilings 0 (row 0 0 8 20 0 0 2 22 3 2)
+    × (Ceilings 0 (row 0 0 8 20 1 0 2 22 3 2) → ⊥)
+    × (Ceilings 0 (row 0 0 8 20 0 0 2 23 3 2) → ⊥)
 ceilings-edge = (
   record {
     overtakers = λ _. lit≤ tt;
     nobody = λ e. omega (arith, e);
-    lastpick = λ _ _. lit≤ tt;
-    lastpickoff = λ _ e. omega (arith, e);
+    lastpick = λ _. lit≤ tt;
+    lastpickoff = λ e. omega (arith, e);
+    past = lit≤ tt;
   },
   (λ h. le→leb 3 2 (h .overtakers (lit≤ tt))),
-  (λ h. le→leb 26 25 (h .lastpick refl (lit≤ tt))),
+  (λ h. le→leb 26 25 (h .lastpick (lit≤ tt))),
   record {
     overtakers = λ _. lit≤ tt;
     nobody = λ e. omega (arith, e);
-    lastpick = λ e _. omega (arith, e);
-    lastpickoff = λ e _. omega (arith, e);
+    lastpick = λ _. lit≤ tt;
+    lastpickoff = λ e. omega (arith, e);
+    past = lit≤ tt;
   },
+  (λ h. le→leb 27 26 (h .lastpick (lit≤ tt))),
+  (λ h. le→leb 1 0 (h .past)),
   record {
     overtakers = λ h. omega (arith, h);
     nobody = λ _. refl;
-    lastpick = λ _ h. omega (arith, h);
-    lastpickoff = λ _ _. lit≤ tt;
+    lastpick = λ h. omega (arith, h);
+    lastpickoff = λ _. lit≤ tt;
+    past = lit≤ tt;
   },
   (λ h. omega (arith, h .nobody refl)),
-  (λ h. le→leb 21 20 (h .lastpickoff refl refl)),
+  (λ h. le→leb 23 22 (h .lastpickoff refl)),
 )

@@ -5,9 +5,9 @@ use mathlib.Core.Path.{_≡_, refl, _∙_}
 use Rattle.rules.specs.declared.State.{State}
 use Rattle.rules.specs.State.{at, isPresent, waitingOf}
 use Rattle.rules.specs.SoundFacts.{Sound}
-use Rattle.rules.specs.Picking.{hasEligible, finds, nextTransport, currentJob, passedOver, nextPlace, nextEntry}
+use Rattle.rules.specs.Picking.{hasEligible, finds, nextTransport, currentJob, nextPlace, nextEntry}
 use Rattle.rules.specs.Preemption.{preemptorOf, preempting}
-use Rattle.rules.specs.Pick.{nobody, preemption, Picked, handedOut, pickFrom, pickWith, pickOn, picking}
+use Rattle.rules.specs.Pick.{Picked, handedOut, pickFrom, pickWith, pickOn, picking}
 use Rattle.rules.proofs.Shape.{Shaped}
 use Rattle.rules.proofs.HandedOut.{CanHandOut}
 use Rattle.rules.proofs.KeptHandedOut.{kept-handed-out}
@@ -26,21 +26,20 @@ pub kept-pick-from : (w : State) (t j : ℕ) → Shaped w → Sound w → isPres
     → Shaped (handedOut w t j (nextPlace w j) (nextEntry w j)) × Sound (handedOut w t j (nextPlace w j) (nextEntry w j))
 kept-pick-from w t j shape h p on e = kept-handed-out w t j (nextPlace w j) (nextEntry w j) shape h (next-can w t j shape h p on e)
 
--- What a pick comes to: it is from the current job, or from the one that preempts it.
+-- What a pick comes to: it is from the current job y, or from the one that preempts it.
 
 module _ {ℓ} (P : Picked → Type ℓ) (w : State) (now : ℕ) (shape : Shaped w) (h : Sound w) (f : finds w ≡ true) where
   with-link : (t y : ℕ) → TransportFound w t → Current w t y
-      → (preemptorOf w now t y ≡ 0 → P (pickFrom w t y (passedOver w t y) nobody))
-      → ((x : ℕ) → preemptorOf w now t y ≡ suc x → Preempts w now t y x → P (pickFrom (preempting w t x y (waitingOf w x)) t x (passedOver w t y) (preemption x y (waitingOf w x))))
+      → (preemptorOf w now t y ≡ 0 → P (pickWith w t y 0))
+      → ((x : ℕ) → preemptorOf w now t y ≡ suc x → Preempts w now t y x → P (pickWith w t y (suc x)))
       → (link : ℕ) → preemptorOf w now t y ≡ link → P (pickWith w t y link)
-  unfolding pickWith
   with-link t y k cur plain pre zero e = plain e
   with-link t y k cur plain pre (suc x) e = pre x e (preemptor-found w now t y x shape h (k .below) cur e)
 
   pub picking-cases :
-      ((t y : ℕ) → t ≡ nextTransport w → y ≡ currentJob w t → TransportFound w t → Current w t y → preemptorOf w now t y ≡ 0 → P (pickFrom w t y (passedOver w t y) nobody))
+      ((t y : ℕ) → t ≡ nextTransport w → y ≡ currentJob w t → TransportFound w t → Current w t y → preemptorOf w now t y ≡ 0 → P (pickWith w t y 0))
       → ((t y x : ℕ) → t ≡ nextTransport w → y ≡ currentJob w t → TransportFound w t → Current w t y → preemptorOf w now t y ≡ suc x → Preempts w now t y x
-      → P (pickFrom (preempting w t x y (waitingOf w x)) t x (passedOver w t y) (preemption x y (waitingOf w x))))
+      → P (pickWith w t y (suc x)))
       → P (picking w now)
   unfolding picking pickOn
   picking-cases plain pre =
@@ -51,7 +50,7 @@ module _ {ℓ} (P : Picked → Type ℓ) (w : State) (now : ℕ) (shape : Shaped
       with-link t y k cur (plain t y refl refl k cur) (λ x. pre t y x refl refl k cur) (preemptorOf w now t y) refl
 
 pub kept-picking : (w : State) (now : ℕ) → Shaped w → Sound w → finds w ≡ true → Shaped (picking w now .state) × Sound (picking w now .state)
-unfolding pickFrom
+unfolding pickWith pickFrom
 kept-picking w now shape h f =
     picking-cases (λ r. Shaped (r .state) × Sound (r .state)) w now shape h f
     (λ t y et ey k cur e. kept-pick-from w t y shape h (cur .present) (cur .transport) (cur .eligible))

@@ -41,6 +41,8 @@ pub mod Candidates
 pub mod ShorterSearch
 pub mod Preemptor
 pub mod Preempted
+-- A13: the jobs that it goes past
+pub mod WentPast
 pub mod HandedOut
 -- what the case of a pick's answer tells
 pub mod Found
@@ -79,6 +81,7 @@ pub mod SimTaking
 pub mod SimTally
 pub mod SimOvertaking
 pub mod SimPreempt
+pub mod SimPast
 pub mod SimPick
 pub mod SimPicking
 pub mod SimReporting

@@ -26,7 +26,7 @@ use Rattle.rules.specs.Windows.{woken}
 use Rattle.rules.specs.Taking.{keptOf, nOf, newNumber, taken}
 use Rattle.rules.specs.Picking.{finds, nextPlace, nextEntry}
 use Rattle.rules.specs.Preemption.{preempting}
-use Rattle.rules.specs.Pick.{handedOut, pickFrom, picking}
+use Rattle.rules.specs.Pick.{handedOut, pickFrom, pickWith, picking}
 use Rattle.rules.specs.Reporting.{reporting}
 use Rattle.rules.specs.Calls.{took, putOff, Call, pickingDecision}
 use Rattle.rules.specs.History.{stateAfter}
@@ -217,10 +217,10 @@ books-picking : (w : State) {l : List Account} → Shaped w → Sound w → Book
 books-picking w {l} shaped sound b now f =
     picking-cases (λ p. Books (p .state) (entered l (pickingDecision (p .found)))) w now shaped sound f
     (λ t x et ex lane cur none.
-    unfold entered pickFrom in
+    unfold entered pickFrom pickWith in
     hands-out w b shaped t x (nextPlace w x) (nextEntry w x) (next-can w t x shaped sound (cur .present) (cur .transport) (cur .eligible)) (cur .present))
     (λ t x z et ex lane cur some p.
-    unfold entered pickFrom in
+    unfold entered pickFrom pickWith in
     let moved : State = preempting w t z x (waitingOf w z) in
     let kept = kept-preempting w now t x z shaped sound (lane .below) cur p in
     let there : isPresent moved z ≡ true = unfold preempting in p .present in

@@ -14,7 +14,7 @@ use Rattle.rules.specs.Sound.{implies, belongs, entrySound, busyOn, busy
 use Rattle.rules.specs.Sound.{countsSound, soldSound, childOf, jobSound, sumsFit, healthSound, sound}
 use Rattle.rules.specs.Taking.{isDead, putOffPositions, keptOf, nOf, newNumber, freePlaces, filled, newOrder, withOrder, taken}
 use Rattle.rules.specs.Picking.{hasRoom, hasAgent, eligible, eligibleOn, eligibleOf, eligibleTo, hasEligible, stepsTo, transportSteps, finds}
-use Rattle.rules.specs.Picking.{nextTransport, currentJob, passedOver, nextPlace, nextEntry}
+use Rattle.rules.specs.Picking.{nextTransport, currentJob, passedOver, isBlocked, wentPast, nextPlace, nextEntry}
 use Rattle.rules.specs.Preemption.{credit, hasCredit, owned, affordable, isCandidate, beats, better, bestBefore, bestCandidate, notAbove, searchEnd, lookedAt}
 use Rattle.rules.specs.Preemption.{paysFor, paysForBest, longEnough, isPreempted, preemptorOf, addedTo, charged, preempting}
 use Rattle.rules.specs.Pick.{handedOut, pickFrom, pickWith, pickOn, picking}
@@ -22,8 +22,8 @@ use Rattle.rules.specs.Reporting.{isDeath, isPutOff, putOffEntries, putO
 use Rattle.rules.specs.Refusals.{badClock, isDestinationOn, lacksNumber, lacksPlaces, isBusyWith, setupRefusal, jobRefusal, pickRefusal, reportRefusal}
 use Rattle.rules.specs.Calls.{unlessRefused, setupReply, takingReply, pickingReply, afterPick, reportingReply, replyTo}
 use Rattle.rules.specs.Calls.{takingDecisions, pickDecisions, decidedUnless, decisionsOn}
-use Rattle.rules.specs.Tally.{noTally, rowOf, countsOn, newRow, withJob, overtakenBy, naming, noting, overtaken, withPreemption, preemptedRows}
-use Rattle.rules.specs.Tally.{withPickAt, withPick, tallied}
+use Rattle.rules.specs.Tally.{noTally, rowOf, sumOn, newRow, withJob, overtakenBy, naming, noting, overtaken, withPreemption, preemptedRows}
+use Rattle.rules.specs.Tally.{goneBy, pastRows, withPickAt, withPick, tallied}
 use Rattle.rules.specs.History.{stateFrom, decisionsFrom, tallyOf}
 use Rattle.rules.specs.Recovery.{isReport, isSuccess, counts, reportsIn, inARow}
 use Rattle.rules.specs.Examples.{shown, windowShown, windowsFailing, succeeded, served, exactAt}
@@ -53,7 +53,7 @@ unfolding isDead putOffPositions keptOf nOf newNumber freePlaces filled newOrder
 jobs = tt
 
 unfoldable pub eligibility : Unit {0}
-unfolding hasRoom hasAgent eligible eligibleOn eligibleOf eligibleTo hasEligible stepsTo transportSteps finds nextTransport currentJob passedOver nextPlace nextEntry
+unfolding hasRoom hasAgent eligible eligibleOn eligibleOf eligibleTo hasEligible stepsTo transportSteps finds nextTransport currentJob passedOver isBlocked wentPast nextPlace nextEntry
 eligibility = tt
 
 unfoldable pub preemptions : Unit {0}
@@ -81,7 +81,7 @@ unfolding takingDecisions pickDecisions decidedUnless decisionsOn
 decisions = tt
 
 unfoldable pub tallies : Unit {0}
-unfolding noTally rowOf countsOn newRow withJob overtakenBy naming noting overtaken withPreemption preemptedRows withPickAt withPick tallied
+unfolding noTally rowOf sumOn newRow withJob overtakenBy naming noting overtaken withPreemption preemptedRows goneBy pastRows withPickAt withPick tallied
 tallies = tt
 
 unfoldable pub runs : Unit {0}

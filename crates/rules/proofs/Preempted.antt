@@ -10,7 +10,7 @@ use Rattle.laws.proofs.Sequence.{take-padded}
 use Rattle.rules.specs.declared.State.{State}
 use Rattle.rules.specs.Sizes.{maxTransports, maxJobs}
 use Rattle.rules.specs.State.{at, zeroList, listOf, listed, queueOf, isPresent, hasPreempted, waitsOf, waitingOf, parentOf}
-use Rattle.rules.specs.Picking.{hasRoom, hasAgent, eligible, eligibleOf, eligibleTo, hasEligible, nextPlace, nextEntry}
+use Rattle.rules.specs.Picking.{hasRoom, hasAgent, eligible, eligibleOf, eligibleTo, hasEligible, isBlocked, nextPlace, nextEntry}
 use Rattle.rules.specs.Preemption.{charged, preempting}
 use Rattle.rules.proofs.Shape.{Shaped, sold-length, parent-length, preempted-length}
 
@@ -24,6 +24,10 @@ module _ (w : State) (t x y m : ℕ) where
   pub preempting-eligible : (j : ℕ) → hasEligible (preempting w t x y m) j ≡ hasEligible w j
   unfolding preempting hasEligible eligibleOf eligible hasRoom hasAgent
   preempting-eligible j = refl
+
+  pub preempting-blocked : (j : ℕ) → isBlocked (preempting w t x y m) j ≡ isBlocked w j
+  unfolding isBlocked
+  preempting-blocked j = rw (preempting-waits j, preempting-eligible j)
 
   pub preempting-place : (j : ℕ) → nextPlace (preempting w t x y m) j ≡ nextPlace w j
   unfolding preempting nextPlace eligibleTo eligibleOf eligible hasRoom hasAgent

@@ -39,8 +39,10 @@ pub record RowIs (g : Columns) (i : ℕ) (r : Row) : Type 0 where
   pub upto : r .upto ≡ g .upto i
   pub overtakers : r .overtakers ≡ g .over i
   pub names : r .names ≡ g .names i
+  pub past : r .past ≡ g .blocked i
   pub lastpick : r .lastpick ≡ g .lastPick i
   pub lasttotal : r .lasttotal ≡ g .lastTotal i
+  pub lastpast : r .lastpast ≡ g .lastBlocked i
 
 -- what the state keeps of a present job is what the columns say of its row i; its stored parent is the job of the nearest row up the chain
 -- of names that is still present

@@ -2,18 +2,19 @@
 use Prim.Native.Nat.{ℕ, suc, _≤_, _<_}
 use mathlib.Core.Path.{_≡_, sym, _∙_, ap, subst}
 use mathlib.Core.Logic.{_≢_, _⊎_, inl, inr, ⊎-elim}
-use mathlib.Core.Bool.{Bool, true, false, _&&_}
+use mathlib.Core.Bool.{true}
 use mathlib.Core.List.{List}
 use native.Mathlib.Decide.{ℕ-discrete}
 use native.Mathlib.Nat.{suc-inj, lt-of-lt-of-le}
 use native.Mathlib.Omega.{arith}
-use lib.Dec.{ltb}
-use borrow.Author.Tests.{lt-ltb}
+use lib.Dec.{eqb}
+use borrow.Author.Tests.{eqb-true, eq-eqb, lt-ltb}
+use Rattle.laws.specs.Range.{sumTo}
 use Rattle.laws.specs.Order.{Before}
 use Rattle.laws.specs.Sequence.{holds, upTo, moveBefore}
-use Rattle.laws.proofs.Bools.{true-not-false, true-of, and-both}
-use Rattle.laws.proofs.Joined.{and-3}
-use Rattle.laws.proofs.Sequence.{count-in-pos-of}
+use Rattle.laws.proofs.Bools.{true-of}
+use Rattle.laws.proofs.Sequence.{count-in-pos-of, count-in-witness, count-in-same}
+use Rattle.laws.proofs.Keep.{keep-in, holds-keep-in}
 use Rattle.laws.proofs.FirstOf.{up-to-in}
 use Rattle.laws.proofs.Once.{once-le}
 use Rattle.laws.proofs.Order.{before-total, before-up-to}
@@ -22,46 +23,29 @@ use Rattle.ceiling.specs.Columns.{Columns}
 use Rattle.ceiling.specs.Steps.{Picking, pick, preempt}
 use Rattle.rules.specs.declared.Setup.{Setup}
 use Rattle.rules.specs.declared.State.{State}
+use Rattle.rules.specs.Sizes.{maxTransports}
 use Rattle.rules.specs.State.{queueOf, waitingOf}
 use Rattle.rules.specs.SoundFacts.{Sound}
-use Rattle.rules.specs.Picking.{finds, passedOver, nextPlace, nextEntry}
+use Rattle.rules.specs.Picking.{finds, hasWaiting, passedOver, nextPlace, nextEntry}
 use Rattle.rules.specs.Preemption.{preempting}
-use Rattle.rules.specs.Pick.{nobody, preemption, handedOut, pickFrom, picking}
+use Rattle.rules.specs.Pick.{handedOut, pickFrom, pickWith, picking}
 use Rattle.rules.specs.Calls.{pickingDecision}
-use Rattle.rules.specs.Tally.{Row, Tally, rowAt, rowOf, naming, overtaken, withPreemption, preemptedRows, withPickAt, withPick, tallied}
+use Rattle.rules.specs.Tally.{Row, Tally, rowAt, rowOf, naming, overtaken, withPreemption, preemptedRows, pastRows, withPickAt, withPick, tallied}
 use Rattle.rules.proofs.Shape.{Shaped}
 use Rattle.rules.proofs.EntryFacts.{has-eligible-waits}
 use Rattle.rules.proofs.Picked.{Current}
 use Rattle.rules.proofs.Preemptor.{Preempts}
 use Rattle.rules.proofs.KeptPreempting.{kept-preempting}
 use Rattle.rules.proofs.Preempted.{preempting-queue-own, preempting-eligible}
+use Rattle.rules.proofs.WentPast.{passedJobs, passed-number, past-current, past-preemptor}
 use Rattle.rules.proofs.KeptPicking.{next-can, picking-cases}
 use Rattle.rules.proofs.Sim.{presentRow, Ahead, Sim}
 use Rattle.rules.proofs.SimRows.{job-is, row-inside, present-row-is, same-row-of}
+use Rattle.rules.proofs.SimPast.{pastAt, past-sum}
 use Rattle.rules.proofs.SimPick.{sim-handed-out}
 use Rattle.rules.proofs.SimTally.{Alike, alike-jobs, alike-transport, preempted-alike}
 use Rattle.rules.proofs.SimPreempt.{sim-preempting}
 use Rattle.rules.proofs.ListFacts.{queue-holds, queue-job, queue-once}
-
--- the rows that a pick goes past: of the waiting jobs before the current job b
-unfoldable pub wentPast : State → List Row → ℕ → ℕ → ℕ → Bool
-wentPast w rows t b i =
-    presentRow w rows i && holds (rowAt rows i .job) (upTo b (queueOf w t)) && ltb 0 (waitingOf w (rowAt rows i .job))
-
-module _ (w : State) (rows : List Row) (t b i : ℕ) where
-  past-facts : wentPast w rows t b i ≡ true
-      → (presentRow w rows i ≡ true) × (holds (rowAt rows i .job) (upTo b (queueOf w t)) ≡ true) × (ltb 0 (waitingOf w (rowAt rows i .job)) ≡ true)
-  unfolding wentPast
-  past-facts = and-3 (presentRow w rows i) (holds (rowAt rows i .job) (upTo b (queueOf w t))) (ltb 0 (waitingOf w (rowAt rows i .job)))
-
-  past-counted : wentPast w rows t b i ≡ true → 1 ≤ passedOver w t b
-  unfolding passedOver
-  past-counted h = let f = past-facts h in count-in-pos-of (λ j. ltb 0 (waitingOf w j)) (upTo b (queueOf w t)) (rowAt rows i .job) (f .1) (f .2)
-
-  past-of : presentRow w rows i ≡ true → holds (rowAt rows i .job) (upTo b (queueOf w t)) ≡ true → 1 ≤ waitingOf w (rowAt rows i .job)
-      → wentPast w rows t b i ≡ true
-  unfolding wentPast
-  past-of h k l = and-both (and-both h k) (lt-ltb 0 (waitingOf w (rowAt rows i .job)) l)
 
 module _ {u : Setup} {w : State} {y : Tally} {g : Columns} (m : Sim u w y g) (shaped : Shaped w) (sound : Sound w) (t b : ℕ)
     (below : t < w .setup .transports) (cur : Current w t b) where
@@ -78,18 +62,50 @@ module _ {u : Setup} {w : State} {y : Tally} {g : Columns} (m : Sim u w y g) (sh
         rw (r .waiting ∙ ap (g .waiting) same) h,
       )
 
+  -- how often the pick goes past row i
+  abbrev past : ℕ → ℕ
+  past = pastAt (y .rows) (passedJobs w t b)
+
+  -- a job that it passes over has a row, of this transport
+  passed-row : (j : ℕ) → holds j (passedJobs w t b) ≡ true → (i : ℕ) × (i < g .rows) × (rowOf (y .rows) j ≡ suc i) × (g .transport i ≡ t)
+  passed-row j h =
+      let f = queue-job w t j sound below (up-to-in b j (queueOf w t) (keep-in (hasWaiting w) j (upTo b (queueOf w t)) h)) in
+      let (i, r) = m .job j (f .1) in
+      (i, row-inside m j i (r .link), r .link, sym (r .transport) ∙ f .2)
+
+  past-lane : (i : ℕ) → 1 ≤ past i → g .transport i ≡ t
+  past-lane i h =
+      let (j, k, e) = count-in-witness (λ j. eqb (rowOf (y .rows) j) (suc i)) (passedJobs w t b) h in
+      let (c, l, q, lane) = passed-row j k in
+      ap (g .transport) (suc-inj (sym (eqb-true (rowOf (y .rows) j) (suc i) e) ∙ q)) ∙ lane
+
+  past-number : sumTo past (g .rows) ≡ passedOver w t b
+  past-number = past-sum (y .rows) (g .rows) (passedJobs w t b) (λ j h. let r = passed-row j h in (r .0, r .1, r .2)) ∙ passed-number w t b
+
   -- of those not gone past, b itself or one behind it
-  not-past : (i : ℕ) → i < g .rows → 1 ≤ g .waiting i → g .transport i ≡ t → wentPast w (y .rows) t b i ≡ false
+  not-past : (i : ℕ) → i < g .rows → 1 ≤ g .waiting i → g .transport i ≡ t → past i ≡ 0
       → (rowAt (y .rows) i .job ≡ b) ⊎ Before b (rowAt (y .rows) i .job) (queueOf w t)
-  not-past i l h e f =
+  not-past i l h e z =
       let (here, inside, waits) = waiting-row i l h e in
       elim (ℕ-discrete (rowAt (y .rows) i .job) b) [
         | yes q ↦ inl q
         | no ne ↦
             inr
-            (⊎-elim (λ q. true-not-false (past-of w (y .rows) t b i here (before-up-to _ b (queueOf w t) (once-le (queue-once w t sound below) b) q) waits) f) (λ q. q)
+            (⊎-elim (λ q. absurd (ahead here waits (before-up-to _ b (queueOf w t) (once-le (queue-once w t sound below) b) q))) (λ q. q)
             (before-total (rowAt (y .rows) i .job) b (queueOf w t) ne inside (cur .inside)))
       ]
+    where
+      -- whoever waits before b is gone past
+      ahead : presentRow w (y .rows) i ≡ true → 1 ≤ waitingOf w (rowAt (y .rows) i .job) → holds (rowAt (y .rows) i .job) (upTo b (queueOf w t)) ≡ true → ⊥
+      ahead here waits k =
+          let job = rowAt (y .rows) i .job in
+          omega (
+            arith,
+            z,
+            count-in-pos-of (λ j. eqb (rowOf (y .rows) j) (suc i)) (passedJobs w t b) job
+                (holds-keep-in (hasWaiting w) job (upTo b (queueOf w t)) k (lt-ltb 0 (waitingOf w job) waits))
+                (eq-eqb (rowOf (y .rows) job) (suc i) (present-row-is w (y .rows) i here .1)),
+          )
 
   -- From the current job.
 
@@ -97,23 +113,15 @@ module _ {u : Setup} {w : State} {y : Tally} {g : Columns} (m : Sim u w y g) (sh
     lane-of : g .transport bi ≡ t
     lane-of = sym (job-is m b bi (cur .present) eb .transport) ∙ cur .transport
 
-    past-lane : (i : ℕ) → i < g .rows → wentPast w (y .rows) t b i ≡ true → g .transport i ≡ t
-    past-lane i l h =
-        let f = past-facts w (y .rows) t b i h in
-        let q = present-row-is w (y .rows) i (f .0) in
-        let (c, r) = m .job (rowAt (y .rows) i .job) (q .0) in
-        ap (g .transport) (suc-inj (sym (q .1) ∙ r .link)) ∙ sym (r .transport)
-        ∙ queue-job w t (rowAt (y .rows) i .job) sound below (up-to-in b (rowAt (y .rows) i .job) (queueOf w t) (f .1)) .2
-
-    from-current : Picking g (Ahead w (y .rows)) bi (passedOver w t b) (wentPast w (y .rows) t b)
+    from-current : Picking g (Ahead w (y .rows)) bi (passedOver w t b) past
     from-current =
         record {
           inside = row-inside m b bi eb;
           waits =
               (let (l, r) = m .job b (cur .present) in
               subst (λ n. 1 ≤ n) (r .waiting ∙ ap (g .waiting) (suc-inj (sym (r .link) ∙ eb))) (has-eligible-waits w b (cur .eligible)));
-          same = λ i l h. past-lane i l h ∙ sym lane-of;
-          some = λ i l h. past-counted w (y .rows) t b i h;
+          same = λ i l h. past-lane i h ∙ sym lane-of;
+          number = past-number;
           first = λ i l e h ne f. behind i l (e ∙ lane-of) h ne (not-past i l h (e ∙ lane-of) f);
         }
       where
@@ -123,13 +131,12 @@ module _ {u : Setup} {w : State} {y : Tally} {g : Columns} (m : Sim u w y g) (sh
             let q = present-row-is w (y .rows) i (waiting-row i l h e .0) in
             ⊎-elim (λ s. absurd (ne (suc-inj (sym (q .1) ∙ ap (rowOf (y .rows)) s ∙ eb)))) (λ s. (t, b, rowAt (y .rows) i .job, below, s, eb, q .1)) d
 
-    sim-current : Sim u (pickFrom w t b (passedOver w t b) nobody .state) (tallied y (pickingDecision (pickFrom w t b (passedOver w t b) nobody .found)))
-        (pick g bi (passedOver w t b) (wentPast w (y .rows) t b))
-    unfolding pickFrom tallied withPick preemptedRows
+    sim-current : Sim u (pickWith w t b 0 .state) (tallied y (pickingDecision (pickWith w t b 0 .found))) (pick g bi (passedOver w t b) past)
+    unfolding pickWith pickFrom tallied withPick preemptedRows
     sim-current =
         rw eb
         (sim-handed-out m shaped t b (nextPlace w b) (nextEntry w b) bi (next-can w t b shaped sound (cur .present) (cur .transport) (cur .eligible))
-        (cur .present) eb (passedOver w t b) (wentPast w (y .rows) t b) from-current)
+        (cur .present) eb (passedOver w t b) (pickWith w t b 0 .found .past) past (λ l. ap (λ jobs. pastAt (y .rows) jobs l) (past-current w t b cur)) from-current)
 
   -- From a job that preempts it.
 
@@ -161,15 +168,23 @@ module _ {u : Setup} {w : State} {y : Tally} {g : Columns} (m : Sim u w y g) (sh
     lane-mover : g .transport xi ≡ t
     lane-mover = sym (job-is m x xi (p .present) ex .transport) ∙ p .transport
 
-    from-preemptor : Picking (preempt g xi bi k) (Ahead moved rows) xi (passedOver w t b) (wentPast w (y .rows) t b)
+    few : t < maxTransports
+    few = lt-of-lt-of-le below (sound .setup .transports .1)
+
+    gone-between : (l : ℕ) → pastAt rows (pickWith w t b (suc x) .found .past) l ≡ past l
+    gone-between l =
+        ap (λ jobs. pastAt rows jobs l) (past-preemptor w t b cur now x shaped few p)
+        ∙ count-in-same (λ j. eqb (rowOf rows j) (suc l)) (λ j. eqb (rowOf (y .rows) j) (suc l)) (passedJobs w t b) (λ j h. ap (λ z. eqb z (suc l)) (row-of-between j))
+
+    from-preemptor : Picking (preempt g xi bi k) (Ahead moved rows) xi (passedOver w t b) past
     from-preemptor =
         record {
           inside = row-inside m x xi ex;
           waits =
               (let (l, r) = m .job x (p .present) in
               subst (λ n. 1 ≤ n) (r .waiting ∙ ap (g .waiting) (suc-inj (sym (r .link) ∙ ex))) (p .waits));
-          same = λ i l h. past-lane bi eb i l h ∙ sym lane-mover;
-          some = λ i l h. past-counted w (y .rows) t b i h;
+          same = λ i l h. past-lane i h ∙ sym lane-mover;
+          number = past-number;
           first = λ i l e h ne f. behind i l (e ∙ lane-mover) h ne (not-past i l h (e ∙ lane-mover) f);
         }
       where
@@ -186,7 +201,7 @@ module _ {u : Setup} {w : State} {y : Tally} {g : Columns} (m : Sim u w y g) (sh
               x,
               job,
               (unfold preempting in below),
-              subst (Before x job) (sym (preempting-queue-own w t x b k shaped (lt-of-lt-of-le below (sound .setup .transports .1))))
+              subst (Before x job) (sym (preempting-queue-own w t x b k shaped few))
                   (⊎-elim (λ s. subst (λ j. Before x j (moveBefore x b (queueOf w t))) (sym s) (before-move-target x b (queueOf w t) apart (cur .inside)))
                   (before-move-after x b (queueOf w t) job apart off) d),
               row-of-between x ∙ ex,
@@ -197,23 +212,21 @@ module _ {u : Setup} {w : State} {y : Tally} {g : Columns} (m : Sim u w y g) (sh
     same-lane : rowAt rows xi .transport ≡ rowAt (y .rows) xi .transport
     same-lane = alike-transport like xi
 
-    same-pick : (n : ℕ) → withPickAt between (suc xi) n rows ≡ withPickAt y (suc xi) n rows
+    same-pick : (n : ℕ) (l : List Row) → withPickAt between (suc xi) n l ≡ withPickAt y (suc xi) n l
     unfolding withPickAt
-    same-pick n = rw same-lane
+    same-pick n l = rw same-lane
 
-    sim-preemptor : Sim u (pickFrom moved t x (passedOver w t b) (preemption x b k) .state)
-        (tallied y (pickingDecision (pickFrom moved t x (passedOver w t b) (preemption x b k) .found)))
-        (pick (preempt g xi bi k) xi (passedOver w t b) (wentPast w (y .rows) t b))
-    unfolding pickFrom tallied withPick preemptedRows
+    sim-preemptor : Sim u (pickWith w t b (suc x) .state) (tallied y (pickingDecision (pickWith w t b (suc x) .found))) (pick (preempt g xi bi k) xi (passedOver w t b) past)
+    unfolding pickWith pickFrom tallied withPick preemptedRows
     sim-preemptor =
         rw (ex, eb)
         (unfold withPreemption in
         (subst
-        (λ z. Sim u (handedOut moved t x (nextPlace moved x) (nextEntry moved x)) z (pick (preempt g xi bi k) xi (passedOver w t b) (wentPast w (y .rows) t b)))
-        (same-pick (passedOver w t b))
+        (λ z. Sim u (handedOut moved t x (nextPlace moved x) (nextEntry moved x)) z (pick (preempt g xi bi k) xi (passedOver w t b) past))
+        (same-pick (passedOver w t b) (pastRows (pickWith w t b (suc x) .found .past) rows))
         (sim-handed-out sim-between (kept .0) t x (nextPlace moved x) (nextEntry moved x) xi
         (next-can moved t x (kept .0) (kept .1) (unfold preempting in p .present) (unfold preempting in p .transport) (preempting-eligible w t x b k x ∙ p .eligible))
-        (unfold preempting in p .present) (row-of-between x ∙ ex) (passedOver w t b) (wentPast w (y .rows) t b) from-preemptor)))
+        (unfold preempting in p .present) (row-of-between x ∙ ex) (passedOver w t b) (pickWith w t b (suc x) .found .past) past gone-between from-preemptor)))
 
 -- A pick that finds an entry: the rules' state and the tally move with some columns.
 
@@ -223,10 +236,10 @@ sim-picking {u} {w} {y} {g} m shaped sound now h =
     picking-cases (λ r. (g' : Columns) × Sim u (r .state) (tallied y (pickingDecision (r .found))) g') w now shaped sound h
     (λ t b et eb lane cur none.
     let (i, r) = m .job b (cur .present) in
-    (pick g i (passedOver w t b) (wentPast w (y .rows) t b), sim-current m shaped sound t b (lane .below) cur i (r .link)))
+    (pick g i (passedOver w t b) (pastAt (y .rows) (passedJobs w t b)), sim-current m shaped sound t b (lane .below) cur i (r .link)))
     (λ t b x et eb lane cur some p.
     let (i, r) = m .job b (cur .present) in
     let (l, q) = m .job x (p .present) in (
-      pick (preempt g l i (waitingOf w x)) l (passedOver w t b) (wentPast w (y .rows) t b),
+      pick (preempt g l i (waitingOf w x)) l (passedOver w t b) (pastAt (y .rows) (passedJobs w t b)),
       sim-preemptor m shaped sound t b (lane .below) cur now x i l p (r .link) (q .link),
     ))

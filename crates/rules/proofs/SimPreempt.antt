@@ -122,8 +122,10 @@ module _ {u : Setup} {w : State} {y : Tally} {g : Columns} (m : Sim u w y g) (sh
             overtaken-column (upd (g .names) xi (suc bi)) (suc bi) k (g .rows) named (g .over) (naming-alike (y .rows) xi (suc bi) .length ∙ m .rows)
             (λ i l. naming-overtakers (y .rows) xi (suc bi) i ∙ m .row i l .overtakers) names-after closed (λ z e. subst (λ n. n < g .rows) (suc-inj e) inside) i l;
         names = overtaken-names (suc bi) k named i ∙ names-after i l;
+        past = ap (λ r. r .past) (like .rest i) ∙ r .past;
         lastpick = ap (λ r. r .lastpick) (like .rest i) ∙ r .lastpick;
         lasttotal = ap (λ r. r .lasttotal) (like .rest i) ∙ r .lasttotal;
+        lastpast = ap (λ r. r .lastpast) (like .rest i) ∙ r .lastpast;
       }
 
   same-length : length rows ≡ length (y .rows)

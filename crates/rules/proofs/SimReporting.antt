@@ -157,8 +157,10 @@ module _ {u : Setup} {w : State} {y : Tally} {g : Columns} (m : Sim u w y g) (no
               upto = r .upto;
               overtakers = r .overtakers;
               names = r .names;
+              past = r .past;
               lastpick = r .lastpick;
               lasttotal = r .lasttotal;
+              lastpast = r .lastpast;
             });
         picks = m .picks;
         total = m .total;

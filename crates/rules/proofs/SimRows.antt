@@ -9,13 +9,16 @@ use lib.ListN.{length, set}
 use lib.Seq.{getD-set-same, getD-set-other}
 use lib.Dec.{eqb}
 use borrow.Author.Tests.{eqb-true, eq-eqb}
+use Rattle.laws.specs.Bools.{if_then_else_}
+use Rattle.laws.specs.Range.{sumTo}
 use Rattle.laws.proofs.Bools.{and-both, and-left, and-right}
 use Rattle.laws.proofs.Newest.{set-field}
-use Rattle.ceiling.specs.Columns.{Columns}
+use Rattle.laws.proofs.Sum.{sum-eq}
+use Rattle.ceiling.specs.Columns.{Columns, ofTransport}
 use Rattle.rules.specs.declared.Setup.{Setup}
 use Rattle.rules.specs.declared.State.{State}
 use Rattle.rules.specs.State.{isPresent}
-use Rattle.rules.specs.Tally.{Row, Tally, noRow, rowAt, rowOf}
+use Rattle.rules.specs.Tally.{Row, Tally, noRow, rowAt, rowOf, sumOn}
 use Rattle.rules.proofs.Rows.{row-of-is, row-of-same}
 use Rattle.rules.proofs.Sim.{presentRow, jobLink, JobIs, Sim}
 
@@ -32,6 +35,15 @@ job-is {s = s} {y = y} {g = g} m j i h e =
 -- different jobs have different rows
 pub rows-apart : (rows : List Row) (j k a b : ℕ) → rowOf rows j ≡ suc a → rowOf rows k ≡ suc b → j ≢ k → a ≢ b
 rows-apart rows j k a b p q ne e = ne (sym (row-of-is rows j a p .1) ∙ ap (λ i. rowAt rows i .job) e ∙ row-of-is rows k b q .1)
+
+-- a number of each row that is a column's: summed over a transport's rows, it is the column's
+pub sum-on : {u : Setup} {s : State} {y : Tally} {g : Columns} → Sim u s y g → (t : ℕ) (f : Row → ℕ) (col : ℕ → ℕ)
+    → ((i : ℕ) → i < g .rows → f (rowAt (y .rows) i) ≡ col i) → sumOn t f (y .rows) ≡ ofTransport g t col (g .rows)
+unfolding sumOn
+sum-on {y = y} {g = g} m t f col h =
+    ap (sumTo (λ i. if eqb (rowAt (y .rows) i .transport) t then f (rowAt (y .rows) i) else 0)) (m .rows)
+    ∙ sum-eq (λ i. if eqb (rowAt (y .rows) i .transport) t then f (rowAt (y .rows) i) else 0) (λ i. if eqb (g .transport i) t then col i else 0) (g .rows)
+    (λ i l. rw (m .row i l .transport, h i l) refl)
 
 -- the row of a present job is a present row
 pub present-of : (s : State) (rows : List Row) (j i : ℕ) → isPresent s j ≡ true → rowOf rows j ≡ suc i → presentRow s rows i ≡ true

@@ -10,15 +10,12 @@ use native.Mathlib.Omega.{arith}
 use lib.ListN.{length}
 use lib.Dec.{eqb}
 use borrow.Author.Tests.{ne-eqb}
-use Rattle.laws.specs.Bools.{if_then_else_}
-use Rattle.laws.specs.Range.{sumTo}
 use Rattle.laws.specs.Chain.{firstAlong}
 use Rattle.laws.specs.Onto.{near}
 use Rattle.laws.specs.Order.{Before}
 use Rattle.laws.specs.Sequence.{holds}
 use Rattle.laws.proofs.Bools.{true-not-false, and-left-false, and-right-false}
 use Rattle.laws.proofs.Update.{upd-same, upd-below}
-use Rattle.laws.proofs.Sum.{sum-eq}
 use Rattle.laws.proofs.All.{below-suc}
 use Rattle.laws.proofs.Newest.{getD-old, getD-new, length-new}
 use Rattle.laws.proofs.Sequence.{holds-cases}
@@ -34,14 +31,14 @@ use Rattle.rules.specs.declared.State.{State}
 use Rattle.rules.specs.State.{at, queueOf, isPresent}
 use Rattle.rules.specs.SoundFacts.{Sound}
 use Rattle.rules.specs.Taking.{taken}
-use Rattle.rules.specs.Tally.{Row, Tally, noRow, rowAt, rowOf, countsOn, newRow, withJob}
+use Rattle.rules.specs.Tally.{Row, Tally, noRow, rowAt, rowOf, newRow, withJob}
 use Rattle.rules.proofs.Shape.{Shaped}
 use Rattle.rules.proofs.Taken.{Fits, taken-others, taken-new, present-other}
 use Rattle.rules.proofs.TakenEntries.{taken-waiting-new, taken-waiting-other}
 use Rattle.rules.proofs.TakenLists.{taken-queue, taken-queue-other}
 use Rattle.rules.proofs.Rows.{row-of-new, row-of-old}
 use Rattle.rules.proofs.Sim.{presentRow, jobLink, Ahead, RowIs, JobIs, Sim}
-use Rattle.rules.proofs.SimRows.{row-inside, present-of}
+use Rattle.rules.proofs.SimRows.{row-inside, present-of, sum-on}
 use Rattle.rules.proofs.ListFacts.{queue-job}
 
 module _ {u : Setup} {w : State} {y : Tally} {g : Columns} (m : Sim u w y g) (j t now : ℕ) (kept : List ℕ) (shaped : Shaped w) (sound : Sound w)
@@ -80,7 +77,7 @@ module _ {u : Setup} {w : State} {y : Tally} {g : Columns} (m : Sim u w y g) (j 
   newest = ap (rowAt rows) (sym (m .rows)) ∙ getD-new (λ r. r .job) noRow (y .rows) new
 
   row-after : (i : ℕ) → i < suc (g .rows) → RowIs g' i (rowAt rows i)
-  unfolding newRow countsOn
+  unfolding newRow
   row-after = below-suc (λ i. RowIs g' i (rowAt rows i)) (g .rows) older (subst (RowIs g' (g .rows)) (sym newest) latest)
     where
       older : (i : ℕ) → i < g .rows → RowIs g' i (rowAt rows i)
@@ -93,26 +90,24 @@ module _ {u : Setup} {w : State} {y : Tally} {g : Columns} (m : Sim u w y g) (j 
             upto = r .upto ∙ sym (upd-below (g .upto) (g .rows) _ i l);
             overtakers = r .overtakers ∙ sym (upd-below (g .over) (g .rows) 0 i l);
             names = r .names ∙ sym (upd-below (g .names) (g .rows) 0 i l);
+            past = r .past ∙ sym (upd-below (g .blocked) (g .rows) 0 i l);
             lastpick = r .lastpick ∙ sym (upd-below (g .lastPick) (g .rows) 0 i l);
             lasttotal = r .lasttotal ∙ sym (upd-below (g .lastTotal) (g .rows) 0 i l);
+            lastpast = r .lastpast ∙ sym (upd-below (g .lastBlocked) (g .rows) 0 i l);
           })
-
-      sum-is : sumTo (λ i. countsOn t (rowAt (y .rows) i)) (length (y .rows)) ≡ ofTransport g t (g .n) (g .rows)
-      sum-is =
-          ap (sumTo (λ i. countsOn t (rowAt (y .rows) i))) (m .rows)
-          ∙ sum-eq (λ i. countsOn t (rowAt (y .rows) i)) (λ i. if eqb (g .transport i) t then g .n i else 0) (g .rows)
-          (λ i l. rw (m .row i l .transport, m .row i l .n) refl)
 
       latest : RowIs g' (g .rows) new
       latest =
           record {
             transport = sym (upd-same (g .transport) (g .rows) t);
             n = sym (upd-same (g .n) (g .rows) n);
-            upto = omega (arith, sum-is, upd-same (g .upto) (g .rows) (n + ofTransport g t (g .n) (g .rows)));
+            upto = omega (arith, sum-on m t (λ r. r .n) (g .n) (λ i l. m .row i l .n), upd-same (g .upto) (g .rows) (n + ofTransport g t (g .n) (g .rows)));
             overtakers = sym (upd-same (g .over) (g .rows) 0);
             names = sym (upd-same (g .names) (g .rows) 0);
+            past = sym (upd-same (g .blocked) (g .rows) 0);
             lastpick = sym (upd-same (g .lastPick) (g .rows) 0);
             lasttotal = sym (upd-same (g .lastTotal) (g .rows) 0);
+            lastpast = sym (upd-same (g .lastBlocked) (g .rows) 0);
           }
 
   -- which rows are present

@@ -13,7 +13,7 @@ use Rattle.rules.proofs.SimRows.{row-same, row-other, row-field}
 
 -- the rows but for their overtakers and whom they name
 abbrev apart : Row → Row
-apart r = withNotes r 0 0 (r .lastpick) (r .lasttotal)
+apart r = withNotes r 0 0 (r .past) (r .lastpick) (r .lasttotal) (r .lastpast)
 
 -- what a preemption leaves alone
 pub record Alike (rows other : List Row) : Type 0 where

@@ -157,8 +157,8 @@ boardReply s buffer = replyTo s (board buffer)
 pub data Decision : Type 0 where
   -- the job taken, its transport and its n
   took : ℕ → ℕ → ℕ → Decision
-  -- the job picked, the number passed over, who preempted whom with how many waiting
-  picked : ℕ → ℕ → Preemption → Decision
+  -- the job picked, the number passed over, the jobs gone past (A13), who preempted whom with how many waiting
+  picked : ℕ → ℕ → List ℕ → Preemption → Decision
   -- the job of an entry that a report put off
   putOff : ℕ → Decision
 
@@ -166,7 +166,7 @@ unfoldable pub takingDecisions : State → ℕ → List ℕ → List Decision
 takingDecisions w t dests = if eqb (nOf w dests) 0 then [] else took (newNumber w) t (nOf w dests) ∷ []
 
 abbrev pub pickingDecision : Found → Decision
-pickingDecision f = picked (f .job) (f .passed) (f .preempted)
+pickingDecision f = picked (f .job) (f .passed) (f .past) (f .preempted)
 
 unfoldable pub pickDecisions : State → ℕ → List Decision
 pickDecisions w now = if finds w then pickingDecision (picking w now .found) ∷ [] else []

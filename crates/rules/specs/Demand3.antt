@@ -14,7 +14,7 @@ use Rattle.rules.specs.Windows.{woken}
 use Rattle.rules.specs.Picking.{eligible, finds}
 use Rattle.rules.specs.Refusals.{pickRefusal}
 use Rattle.rules.specs.Calls.{Call, granted, replyTo}
-use Rattle.rules.specs.Tally.{Row, rowAt, rowOf, linkedRow}
+use Rattle.rules.specs.Tally.{Row, rowAt, rowOf, linkedRow, sumOn}
 use Rattle.rules.specs.History.{stateAfter, tallyOf}
 use Rattle.rules.specs.Ledger.{accountAt, accountsOf, stillWaiting}
 
@@ -22,19 +22,32 @@ use Rattle.rules.specs.Ledger.{accountAt, accountsOf, stillWaiting}
 abbrev pub costFor : Setup → Row → ℕ
 costFor u r = getD (u .settings) (r .transport) zeroSettings .cost
 
--- what holds of one row
+-- what holds of one row; its P is the number of picks that had gone past it at its last one (A13)
 pub record Ceilings (c : ℕ) (r : Row) : Type 0 where
   -- with c of 2 or more, the overtakers are at most n/(c-1) rounded down
   pub overtakers : 2 ≤ c → r .overtakers ≤ r .n / (c - 1)
   -- with c = 0 nobody overtakes
   pub nobody : c ≡ 0 → r .overtakers ≡ 0
-  -- where nobody was passed over up to its last pick, that comes no later than N + N/(c-1) rounded down, and than N with c = 0
-  pub lastpick : r .lasttotal ≡ 0 → 2 ≤ c → r .lastpick ≤ r .upto + r .upto / (c - 1)
-  pub lastpickoff : r .lasttotal ≡ 0 → c ≡ 0 → r .lastpick ≤ r .upto
+  -- "its last pick comes no later than N + N/(c-1) rounded down + P"; "With c = 0 the middle term is 0" (A13)
+  pub lastpick : 2 ≤ c → r .lastpick ≤ r .upto + r .upto / (c - 1) + r .lastpast
+  pub lastpickoff : c ≡ 0 → r .lastpick ≤ r .upto + r .lastpast
+  -- P is no more than the jobs passed over by then: 0 where nobody was
+  pub past : r .lastpast ≤ r .lasttotal
+
+-- "The old statement follows, its P being 0" (A13): what document 01 says of a last pick up to which nobody was passed over
+pub record NobodyPassed (c : ℕ) (r : Row) : Type 0 where
+  pub past : r .lastpast ≡ 0
+  pub lastpick : 2 ≤ c → r .lastpick ≤ r .upto + r .upto / (c - 1)
+  pub lastpickoff : c ≡ 0 → r .lastpick ≤ r .upto
+
+abbrev pub OldFollows : Type 0
+OldFollows = (c : ℕ) (r : Row) → Ceilings c r → r .lasttotal ≡ 0 → NobodyPassed c r
 
 pub record Demand3 (u : Setup) (calls : List Call) : Type 0 where
   -- every row of the tally, of jobs that left too
   pub ceilings : (i : ℕ) → i < length (tallyOf u calls .rows) → Ceilings (costFor u (rowAt (tallyOf u calls .rows) i)) (rowAt (tallyOf u calls .rows) i)
+  -- P counts nothing else (A13): over a transport's rows, the picks that went past them add up to the jobs passed over on it
+  pub counted : (t : ℕ) → sumOn t (λ r. r .past) (tallyOf u calls .rows) ≡ tallyOf u calls .total t
   -- after every prefix a present job has a row, and asking about it is accepted and answers that row's overtakers
   pub asking :
       (before after : List Call)

@@ -44,7 +44,7 @@ booked (suc i) p q l =
 
 unfoldable pub entered : List Account → Decision → List Account
 entered l (took j t n) = l ++ (record { job = j; taken = n; picked = 0; putoff = 0 } ∷ [])
-entered l (picked j passed p) = booked (accountOf l j) 1 0 l
+entered l (picked j passed past p) = booked (accountOf l j) 1 0 l
 entered l (putOff j) = booked (accountOf l j) 0 1 l
 
 -- the accounts after these calls

@@ -1,5 +1,6 @@
 -- Document 01, "Picking and preemption": a pick put together, and what it decides. The state here is the one after waking.
 use Prim.Native.Nat.{ℕ, zero, suc, _+_, _%_}
+use mathlib.Core.List.{List}
 use lib.ListN.{set}
 use Rattle.rules.specs.declared.Busy.{Busy}
 use Rattle.rules.specs.declared.Jobs.{Jobs}
@@ -7,7 +8,7 @@ use Rattle.rules.specs.declared.State.{State}
 use Rattle.rules.specs.Sizes.{tickets}
 use Rattle.rules.specs.State.{at, destinationOf, waitingOf}
 use Rattle.rules.specs.Changed.{atTurn, onBusy, onJobs, onEntries, onPicked, onTurn, withKinds}
-use Rattle.rules.specs.Picking.{nextTransport, currentJob, passedOver, nextPlace, nextEntry}
+use Rattle.rules.specs.Picking.{nextTransport, currentJob, passedOver, wentPast, nextPlace, nextEntry}
 use Rattle.rules.specs.Preemption.{preemptorOf, preempting}
 
 -- who preempted whom with how many waiting
@@ -21,7 +22,9 @@ pub record Found : Type 0 where
   pub transport : ℕ
   pub job : ℕ
   pub entry : ℕ
+  -- how many jobs it passed over, and which it went past (A13)
   pub passed : ℕ
+  pub past : List ℕ
   pub preempted : Preemption
 
 abbrev pub pickedJobs : Jobs → ℕ → ℕ → Jobs
@@ -47,17 +50,20 @@ pub record Picked : Type 0 where
   pub found : Found
   pub state : State
 
-unfoldable pub pickFrom : State → ℕ → ℕ → ℕ → Preemption → Picked
-pickFrom s t j passed p =
+unfoldable pub pickFrom : State → ℕ → ℕ → ℕ → List ℕ → Preemption → Picked
+pickFrom s t j passed past p =
     record {
-      found = record { transport = t; job = j; entry = nextEntry s j; passed = passed; preempted = p };
+      found = record { transport = t; job = j; entry = nextEntry s j; passed = passed; past = past; preempted = p };
       state = handedOut s t j (nextPlace s j) (nextEntry s j);
     }
 
+-- jobs passed over are those before y as the list stands; those gone past "at the moment of choosing, after the preempting job has been moved" (A13)
 unfoldable pub pickWith : State → ℕ → ℕ → ℕ → Picked
-pickWith s t y zero = pickFrom s t y (passedOver s t y) nobody
-pickWith s t y (suc x) =
-    pickFrom (preempting s t x y (waitingOf s x)) t x (passedOver s t y) (preemption x y (waitingOf s x))
+pickWith s t y zero = pickFrom s t y (passedOver s t y) (wentPast s t y) nobody
+pickWith s t y (suc x) = pickFrom moved t x (passedOver s t y) (wentPast moved t x) (preemption x y (waitingOf s x))
+  where
+    moved : State
+    moved = preempting s t x y (waitingOf s x)
 
 unfoldable pub pickOn : State → ℕ → ℕ → ℕ → Picked
 pickOn s now t y = pickWith s t y (preemptorOf s now t y)

@@ -1,9 +1,10 @@
 -- Document 01, "Picking and preemption", first part: which transport, which job, which entry. The state here is the one after waking.
 use Prim.Native.Nat.{ℕ, _+_, _%_}
-use mathlib.Core.Bool.{Bool, _&&_}
+use mathlib.Core.Bool.{Bool, not, _&&_}
+use mathlib.Core.List.{List}
 use lib.Dec.{eqb, ltb}
 use Rattle.laws.specs.Range.{anyTo, firstTo}
-use Rattle.laws.specs.Sequence.{firstOf, upTo, countIn}
+use Rattle.laws.specs.Sequence.{keep, firstOf, upTo, countIn}
 use Rattle.rules.specs.declared.State.{State}
 use Rattle.rules.specs.Sizes.{maxJobs, maxEntries}
 use Rattle.rules.specs.State.{at, settingsOf, transportOf, healthOf, isLive, windowOf, queueOf, isWaiting, jobOf, destinationOf, waitingOf, orderAt}
@@ -52,9 +53,21 @@ nextTransport s = (s .turn + transportSteps s) % (s .setup .transports)
 unfoldable pub currentJob : State → ℕ → ℕ
 currentJob s t = firstOf (hasEligible s) (queueOf s t) maxJobs
 
+-- a job "with a waiting entry"
+abbrev pub hasWaiting : State → ℕ → Bool
+hasWaiting s j = ltb 0 (waitingOf s j)
+
 -- "the number of jobs passed over: those before the old current job with a waiting entry"
 unfoldable pub passedOver : State → ℕ → ℕ → ℕ
-passedOver s t y = countIn (λ j. ltb 0 (waitingOf s j)) (upTo y (queueOf s t))
+passedOver s t y = countIn (hasWaiting s) (upTo y (queueOf s t))
+
+-- "it had a waiting entry and none eligible" (A13)
+unfoldable pub isBlocked : State → ℕ → Bool
+isBlocked s j = hasWaiting s j && not (hasEligible s j)
+
+-- the jobs that a pick from j goes past (A13): it "chose a job behind" each of them "in the list" while that one was blocked
+unfoldable pub wentPast : State → ℕ → ℕ → List ℕ
+wentPast s t j = keep (isBlocked s) (upTo j (queueOf s t))
 
 -- "Inside a job, destinations in order of first appearance among its n take turns after the last one picked (at first, from the front),
 -- skipping those with nothing eligible": the place in the order

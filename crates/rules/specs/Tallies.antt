@@ -1,4 +1,4 @@
--- The tally of demand 3 of two lists of calls, worked out by hand. All calls are at second 0.
+-- The tally of demand 3 of three lists of calls, worked out by hand. All calls are at second 0.
 use Prim.Native.Nat.{ℕ}
 use mathlib.Core.Path.{_≡_}
 use mathlib.Core.List.{List, [], _∷_}
@@ -11,9 +11,9 @@ use Rattle.rules.specs.Tally.{Row}
 use Rattle.rules.specs.History.{tallyOf}
 use Rattle.rules.specs.Examples.{perWindow, defaults, oneTransport, buffer, jobTo0}
 
--- job, transport, n, N, overtakers, the link to the row that it names, last pick, its total
-abbrev pub row : ℕ → ℕ → ℕ → ℕ → ℕ → ℕ → ℕ → ℕ → Row
-row j t n upto overtakers names lastpick lasttotal =
+-- job, transport, n, N, overtakers, the link to the row that it names, the picks that went past it; last pick, its total, its P
+abbrev pub row : ℕ → ℕ → ℕ → ℕ → ℕ → ℕ → ℕ → ℕ → ℕ → ℕ → Row
+row j t n upto overtakers names past lastpick lasttotal lastpast =
     record {
       job = j;
       transport = t;
@@ -21,8 +21,10 @@ row j t n upto overtakers names lastpick lasttotal =
       upto = upto;
       overtakers = overtakers;
       names = names;
+      past = past;
       lastpick = lastpick;
       lasttotal = lasttotal;
+      lastpast = lastpast;
     }
 
 -- success of an entry, with its ticket
@@ -35,9 +37,9 @@ w8Calls =
     jobTo0 0 20 ∷ jobTo0 0 2 ∷ pick 0 ∷ delivered 0 0 ∷ pick 0 ∷ delivered 20 1 ∷ pick 0 ∷ delivered 21 2 ∷ pick 0 ∷ delivered 1 3 ∷ []
 
 -- At the second pick B, with 2 waiting, preempts A: B names A's row, whose link is 1, and the overtakers of A are 2. The picks are A's, B's, B's,
--- A's. N is 20, and 20 + 2. Nobody is passed over.
+-- A's. N is 20, and 20 + 2. Nobody is passed over, and nobody gone past.
 abbrev pub W8Tallied : Type 0
-W8Tallied = tallyOf (oneTransport 1) w8Calls .rows ≡ row 0 0 20 20 2 0 4 0 ∷ row 1 0 2 22 0 1 3 0 ∷ []
+W8Tallied = tallyOf (oneTransport 1) w8Calls .rows ≡ row 0 0 20 20 2 0 0 4 0 0 ∷ row 1 0 2 22 0 1 0 3 0 0 ∷ []
 
 -- transport 0 with destinations 0 and 1, transport 1 with destination 2; windows begin at 1, so that one delivery fills them
 abbrev pub twoTransports : Setup
@@ -77,8 +79,41 @@ PassedOverTallied =
     ∷ pick 0
     ∷ [])
     .rows
-    ≡ row 0 0 3 3 0 0 4 2
-    ∷ row 1 1 2 2 0 0 1 0
-    ∷ row 2 0 1 4 0 0 2 1
-    ∷ row 2 0 1 5 0 0 3 2
+    ≡ row 0 0 3 3 0 0 2 4 2 2
+    ∷ row 1 1 2 2 0 0 0 1 0 0
+    ∷ row 2 0 1 4 0 0 0 2 1 0
+    ∷ row 2 0 1 5 0 0 0 3 2 0
+    ∷ []
+
+-- A job that is gone past twice, the second time by a pick that preempts (A13). Transport 0 of the same set-up; its list is B A C X, and B and C are
+-- for destination 0.
+abbrev pub GonePastTallied : Type 0
+GonePastTallied =
+    tallyOf twoTransports
+    -- B, job 0, entries 0 1: N 2
+    (job 0 0 (0 ∷ 0 ∷ []) buffer
+    -- A, job 1, entries 2 to 16: N 2 + 15
+    ∷ job 0 0 (replicate 15 1) buffer
+    -- C, job 2, entry 17: N 2 + 15 + 1
+    ∷ job 0 0 (0 ∷ []) buffer
+    -- X, job 3, entries 18 19: N 2 + 15 + 1 + 2
+    ∷ job 0 0 (1 ∷ 1 ∷ []) buffer
+    -- B, entry 0, ticket 0: pick 1, total 0. Destination 0 is full: B and C are blocked
+    ∷ pick 0
+    -- past B, A, entry 2, ticket 1: pick 2, total 1. Destination 1 is full
+    ∷ pick 0
+    -- destination 1 has room, and A a credit of 1
+    ∷ delivered 2 1
+    -- X, with 2 waiting, preempts A, and the list is B X A C: past B, and not past C, X, entry 18, ticket 2: pick 3, total 2
+    ∷ pick 0
+    -- destination 0 has room
+    ∷ delivered 0 0
+    -- B, entry 1, ticket 3, past nobody: pick 4, total still 2. That is its ceiling, N + N/4 rounded down + P = 2 + 0 + 2
+    ∷ pick 0
+    ∷ [])
+    .rows
+    ≡ row 0 0 2 2 0 0 2 4 2 2
+    ∷ row 1 0 15 17 2 0 0 2 1 0
+    ∷ row 2 0 1 18 0 0 0 0 0 0
+    ∷ row 3 0 2 20 0 2 0 3 2 0
     ∷ []
