@@ -75,7 +75,7 @@ module _ {g : Columns} (w : Low g) (c : Counts g) where
     counts-pick o = record {
       counted = λ t. omega (arith, upd-suc (g .picks) (g .transport x) t, sum-if-suc (λ r. eqb (g .transport r) t) (g .picked) x (g .rows) (p .inside), c .counted t);
       behind = λ j l q. let v = le-trans q (waits-less j) in omega (arith, beyond-pick j, c .behind j l v, one-within (above g j x) (by j) (λ e. seen j l v (above-true g j x e)));
-      passed = λ t. grown t;
+      passed = grown;
       sums = c .sums;
     }
       where
