@@ -11,7 +11,7 @@ use borrow.Author.Tests.{eq-eqb, ne-eqb, eqb-true}
 use Rattle.laws.specs.Bools.{one}
 use Rattle.laws.specs.Range.{countTo, sumTo}
 use Rattle.laws.proofs.Bools.{case-bool, bool-same, and-both, and-left, and-right, and-left-false, and-right-false, one-false}
-use Rattle.laws.proofs.Sum.{sum-eq, sum-zero, sum-add, sum-change}
+use Rattle.laws.proofs.Sum.{sum-eq, sum-zero, sum-add, sum-alone}
 use Rattle.laws.proofs.Count.{count-le-bound}
 use Rattle.laws.proofs.Places.{set-more}
 use Rattle.rules.specs.State.{at}
@@ -54,15 +54,9 @@ module _ (p q : ℕ → Bool) (key index place : ℕ → ℕ) where
   one-place e b h =
       case-bool (p e)
       (λ t.
-      let u =
-      sum-change (λ z. 0) (λ z. one (p e && eqb (key e) (place z))) (index e) 32 (b t)
-      (λ z l ne. one-false (and-right-false (p e) (h t z l ∙ and-right-false (q e) (ne-eqb (index e) z (λ i. ne (sym i)))))) in
-      omega (
-        arith,
-        u,
-        sum-zero (λ z. 0) 32 (λ z l. refl),
-        ap (λ c. one (p e && c)) (h t (index e) (b t) ∙ bool-same (λ r. and-left (q e) (eqb (index e) (index e)) r) (λ r. and-both r (eq-eqb (index e) (index e) refl))),
-      ))
+      sum-alone (λ z. one (p e && eqb (key e) (place z))) (index e) 32 (b t)
+      (λ z l ne. one-false (and-right-false (p e) (h t z l ∙ and-right-false (q e) (ne-eqb (index e) z (λ i. ne (sym i))))))
+      ∙ ap (λ c. one (p e && c)) (h t (index e) (b t) ∙ bool-same (λ r. and-left (q e) (eqb (index e) (index e)) r) (λ r. and-both r (eq-eqb (index e) (index e) refl))))
       (λ f.
       sum-zero (λ z. one (p e && eqb (key e) (place z))) 32 (λ z l. one-false (and-left-false (eqb (key e) (place z)) f))
       ∙ sym (one-false (and-left-false (q e) f)))

@@ -91,6 +91,10 @@ sum-change f g j (suc n) l h = elim (ℕ-discrete n j) [
   | no p ↦ omega (arith, sum-change f g j n (omega arith) (λ i k. h i (omega arith)), h n (omega arith) p)
 ]
 
+-- one number's part alone
+pub sum-alone : (f : ℕ → ℕ) (j n : ℕ) → j < n → ((i : ℕ) → i < n → i ≢ j → f i ≡ 0) → sumTo f n ≡ f j
+sum-alone f j n l h = omega (arith, sum-change (λ i. 0) f j n l h, sum-zero (λ i. 0) n (λ i k. refl))
+
 -- parts that count only where a test holds
 pub sum-if-le : (p q : ℕ → Bool) (f g : ℕ → ℕ) (n : ℕ) → ((i : ℕ) → i < n → p i ≡ true → (q i ≡ true) × (f i ≤ g i)) → sumTo (λ i. if p i then f i else 0) n ≤ sumTo (λ i. if q i then g i else 0) n
 sum-if-le p q f g n h = sum-le _ _ n (λ i l. if-le (p i) (q i) (f i) (g i) (h i l))

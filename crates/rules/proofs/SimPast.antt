@@ -14,7 +14,7 @@ use Rattle.laws.specs.Range.{sumTo}
 use Rattle.laws.specs.Sequence.{holds, countIn}
 use Rattle.laws.proofs.Bools.{one-true, one-false, eqb-self}
 use Rattle.laws.proofs.Sequence.{holds-head, holds-tail, count-in-same}
-use Rattle.laws.proofs.Sum.{sum-add, sum-zero, sum-change}
+use Rattle.laws.proofs.Sum.{sum-add, sum-zero, sum-alone}
 use Rattle.rules.specs.Tally.{Row, rowAt, rowOf, oncePast, goneBy, pastRows}
 use Rattle.rules.proofs.SimRows.{same-row-of, row-same, row-other, row-field}
 
@@ -71,19 +71,11 @@ past-column (j ∷ jobs) rows k l =
 
 -- Jobs that have rows among the first n add up to their number.
 
-one-hit : (i n : ℕ) → i < n → sumTo (λ k. one (eqb (suc i) (suc k))) n ≡ 1
-one-hit i n l =
-    omega (
-      arith,
-      sum-change (λ k. 0) (λ k. one (eqb (suc i) (suc k))) i n l (λ k b ne. one-false (ne-eqb (suc i) (suc k) (λ e. ne (sym (suc-inj e))))),
-      sum-zero (λ k. 0) n (λ k b. refl),
-      one-true (eqb-self (suc i)),
-    )
-
 pub past-sum : (rows : List Row) (n : ℕ) (jobs : List ℕ) → ((j : ℕ) → holds j jobs ≡ true → (i : ℕ) × (i < n) × (rowOf rows j ≡ suc i)) → sumTo (pastAt rows jobs) n ≡ length jobs
 unfolding countIn
 past-sum rows n [] h = sum-zero (λ k. 0) n (λ k b. refl)
 past-sum rows n (j ∷ jobs) h =
     let (i, l, e) = h j (holds-head j jobs) in
-    let hit : sumTo (λ k. one (eqb (rowOf rows j) (suc k))) n ≡ 1 = rw e (one-hit i n l) in
-    omega (arith, hit, sum-add (λ k. one (eqb (rowOf rows j) (suc k))) (pastAt rows jobs) n, past-sum rows n jobs (λ x k. h x (holds-tail x j jobs k)))
+    let hit = sum-alone (λ k. one (eqb (suc i) (suc k))) i n l (λ k b ne. one-false (ne-eqb (suc i) (suc k) (λ q. ne (sym (suc-inj q))))) in
+    let once : sumTo (λ k. one (eqb (rowOf rows j) (suc k))) n ≡ 1 = rw e (hit ∙ one-true (eqb-self (suc i))) in
+    omega (arith, once, sum-add (λ k. one (eqb (rowOf rows j) (suc k))) (pastAt rows jobs) n, past-sum rows n jobs (λ x k. h x (holds-tail x j jobs k)))

@@ -46,7 +46,7 @@ OldFollows = (c : ℕ) (r : Row) → Ceilings c r → r .lasttotal ≡ 0 → Nob
 pub record Demand3 (u : Setup) (calls : List Call) : Type 0 where
   -- every row of the tally, of jobs that left too
   pub ceilings : (i : ℕ) → i < length (tallyOf u calls .rows) → Ceilings (costFor u (rowAt (tallyOf u calls .rows) i)) (rowAt (tallyOf u calls .rows) i)
-  -- P counts nothing else (A13): over a transport's rows, the picks that went past them add up to the jobs passed over on it
+  -- beside A13's claim, what its rows count, in sum: over a transport's rows, the picks that went past them add up to the jobs passed over on it
   pub counted : (t : ℕ) → sumOn t (λ r. r .past) (tallyOf u calls .rows) ≡ tallyOf u calls .total t
   -- after every prefix a present job has a row, and asking about it is accepted and answers that row's overtakers
   pub asking :

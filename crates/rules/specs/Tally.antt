@@ -1,4 +1,4 @@
--- Document 01, "The tally of demand 3": kept beside the rules, fed their decisions, reading nothing of a state.
+-- Document 01, "The tally of demand 3", with A13's P: kept beside the rules, fed their decisions, reading nothing of a state.
 use Prim.Native.Nat.{ℕ, zero, suc, _+_}
 use mathlib.Core.List.{List, [], _∷_, _++_}
 use lib.ListN.{length, getD, set}
