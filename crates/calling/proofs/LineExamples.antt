@@ -8,10 +8,10 @@ use Rattle.rules.specs.declared.Outcome.{Outcome}
 use Rattle.rules.specs.declared.Outcome.the-variants
 use Rattle.rules.specs.Setup.{zeroState}
 use Rattle.rules.specs.Board.{decimalIn, decimal}
-use Rattle.rules.specs.Calls.{Says, Reply, job, pick, report, ask, board, refused, granted}
+use Rattle.rules.specs.Calls.{Says, Reply, job, pick, report, ask, board, outcomeOf, refused, granted}
 use Rattle.lines.specs.Words.{longer, pieces, notEmpty, wordsOf, sameBytes, valueFrom, valueOf, isNumber, allNumbers}
 use Rattle.lines.specs.Texts.{numbers, shownByte}
-use Rattle.calling.specs.Meaning.{Line, nothing, malformed, call, jobLine, pickLine, reportLine, outcomeOf, callLine, meaningOfWords, meaningOf}
+use Rattle.calling.specs.Meaning.{Line, nothing, malformed, call, jobLine, pickLine, reportLine, callLine, meaningOfWords, meaningOf}
 use Rattle.calling.specs.Replies.{valuesText, replyText}
 
 pub lines-say :

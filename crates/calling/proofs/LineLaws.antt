@@ -14,12 +14,12 @@ use Rattle.rules.specs.declared.Setup.{Setup}
 use Rattle.rules.specs.declared.Outcome.{Outcome}
 use Rattle.rules.specs.declared.Outcome.the-variants
 use Rattle.rules.specs.State.{at}
-use Rattle.rules.specs.Calls.{job, pick, report, ask, board}
+use Rattle.rules.specs.Calls.{job, pick, report, ask, board, outcomeOf}
 use Rattle.lines.specs.Names.{setupName, jobName, pickName, reportName, askName, boardName}
 use Rattle.lines.specs.Words.{sameBytes}
 use Rattle.lines.specs.Setups.{placeOfD, announced, countPlace, setupFrom}
 use Rattle.lines.proofs.PutLaws.{take-most}
-use Rattle.calling.specs.Meaning.{malformed, setup, call, setupLine, jobLine, pickLine, outcomeOf, reportLine, askLine, boardLine}
+use Rattle.calling.specs.Meaning.{malformed, setup, call, setupLine, jobLine, pickLine, reportLine, askLine, boardLine}
 use Rattle.calling.specs.Meaning.{Line, kindOf, callLine}
 
 module _ (words : List ℕ) where

@@ -7,10 +7,8 @@ use lib.Dec.{eqb, leb}
 use Rattle.laws.specs.Bools.{if_then_else_}
 use Rattle.rules.specs.declared.Setup.{Setup}
 use Rattle.rules.specs.declared.State.{State}
-use Rattle.rules.specs.declared.Outcome.{Outcome}
-use Rattle.rules.specs.declared.Outcome.the-variants
 use Rattle.rules.specs.State.{at}
-use Rattle.rules.specs.Calls.{Call, job, pick, report, ask, board, setupReply, replyTo}
+use Rattle.rules.specs.Calls.{Call, job, pick, report, ask, board, outcomeOf, setupReply, replyTo}
 use Rattle.lines.specs.Names.{setupName, jobName, pickName, reportName, askName, boardName}
 use Rattle.lines.specs.Words.{wordsOf, sameBytes, allNumbers, numbersOf}
 use Rattle.lines.specs.Setups.{announced, setupOf}
@@ -39,10 +37,6 @@ jobLine words list =
 -- clock
 unfoldable pub pickLine : List ℕ → Line
 pickLine words = if eqb (length words) 1 then call (pick (at words 0)) else malformed
-
--- 0 success, 1 failure
-unfoldable pub outcomeOf : ℕ → Outcome
-outcomeOf n = if eqb n 1 then Outcome.Failure else Outcome.Success
 
 -- clock entry ticket outcome list-places
 unfoldable pub reportLine : List ℕ → List ℕ → Line

@@ -10,9 +10,9 @@ use rules::State;
 ghost use Prim.Native.Nat.{_*_, _≤_};
 ghost use mathlib.Core.Path.{_≡_};
 ghost use lib.ListN.{length};
-ghost use Rattle.rules.specs.Calls.{setupReply};
+ghost use Rattle.rules.specs.Calls.{outcomeOf, setupReply};
 ghost use Rattle.lines.specs.Texts.{Put, malformedText};
-ghost use Rattle.calling.specs.Meaning.{setupLine, jobLine, pickLine, reportLine, outcomeOf, askLine, boardLine, kindOf, callLine, meaningOf, stateOn};
+ghost use Rattle.calling.specs.Meaning.{setupLine, jobLine, pickLine, reportLine, askLine, boardLine, kindOf, callLine, meaningOf, stateOn};
 ghost use Rattle.calling.specs.Replies.{startText, textOn};
 
 // The state that a call left, and how many bytes of answer it put into the lent buffer.

@@ -210,7 +210,7 @@ fn put_list(out: &mut [u8], at: usize, n: u16, list: &[u16]) -> usize
 }
 
 // The word of why the number moved.
-fn put_move(out: &mut [u8], at: usize, m: Move) -> usize
+pub fn put_move(out: &mut [u8], at: usize, m: Move) -> usize
     ensures { λ r. ⌜ Put (moveWord (moveNumber m)) (now (out .entry)) at (now (out .exit)) r ⌝ }
 {
     match m {

@@ -89,6 +89,8 @@ pub mod SimReporting
 
 -- the steps that a call is made of: what they keep, every list of calls keeps
 pub mod CallCases
+-- one call more at the end of a list
+pub mod HistoryLaws
 -- every state reached is sound, with a simulation
 pub mod Reached
 -- an account for each job ever taken, and that it balances

@@ -8,6 +8,7 @@ use Rattle.laws.specs.Bools.{if_then_else_}
 use Rattle.rules.specs.declared.Setup.{Setup}
 use Rattle.rules.specs.declared.State.{State}
 use Rattle.rules.specs.declared.Outcome.{Outcome}
+use Rattle.rules.specs.declared.Outcome.the-variants
 use Rattle.rules.specs.State.{at, jobOf, destinationOf}
 use Rattle.rules.specs.Setup.{zeroState, freshState}
 use Rattle.rules.specs.Windows.{moveNumber, woken}
@@ -29,6 +30,10 @@ pub record Reply : Type 0 where
   pub state : State
   -- what the lent buffer holds at the end; nothing where none is lent
   pub buffer : List ℕ
+
+-- an outcome that is told by a number: "0 success or 1 failure" (A1)
+unfoldable pub outcomeOf : ℕ → Outcome
+outcomeOf n = if eqb n 1 then Outcome.Failure else Outcome.Success
 
 -- a call's arguments
 pub data Call : Type 0 where

@@ -1,4 +1,5 @@
 -- A list of calls, run by the rules from the state of a set-up: "each later one the state as the call before left it".
+use Prim.Native.Nat.{ℕ}
 use mathlib.Core.List.{List, [], _∷_, _++_, foldl}
 use Rattle.rules.specs.declared.Setup.{Setup}
 use Rattle.rules.specs.declared.State.{State}
@@ -18,6 +19,11 @@ stateAfter u calls = stateFrom (freshState u) calls
 unfoldable pub repliesFrom : State → List Call → List Reply
 repliesFrom s [] = []
 repliesFrom s (call ∷ calls) = replyTo s call ∷ repliesFrom (replyTo s call .state) calls
+
+-- what each reply adds to a text or a list, one behind the other
+unfoldable pub gathered : (Call → Reply → List ℕ) → State → List Call → List ℕ
+gathered f s [] = []
+gathered f s (call ∷ calls) = f call (replyTo s call) ++ gathered f (replyTo s call .state) calls
 
 -- what the rules decide, call by call
 unfoldable pub decisionsFrom : State → List Call → List Decision

@@ -1,7 +1,7 @@
 -- Calls read one after another, and what is written behind what is there.
 use Prim.Native.Nat.{ℕ, zero, suc, _+_, _-_, _≤_}
 use mathlib.Core.Path.{_≡_, refl, sym, _∙_, ap, subst}
-use mathlib.Core.List.{List, [], _∷_, _++_, append-assoc, append-nil}
+use mathlib.Core.List.{List, [], _∷_, _++_}
 use native.Mathlib.Nat.{le-refl}
 use native.Mathlib.Omega.{arith}
 use lib.ListN.{length, take, drop, length-drop}
@@ -9,28 +9,14 @@ use lib.Seq.{take-all, length-take-le}
 use borrow.Rule.Slice.PartMut.{putMid}
 use Rattle.rules.specs.declared.State.{State}
 use Rattle.rules.specs.Calls.{Reply, Call, replyTo}
-use Rattle.rules.specs.History.{stateFrom}
+use Rattle.rules.specs.History.{stateFrom, gathered}
+use Rattle.rules.proofs.HistoryLaws.{gathered-more}
 use Rattle.laws.specs.Wrote.{Wrote}
 use Rattle.laws.proofs.Writing.{wrote-length, back-is, beside}
 use Rattle.layout.specs.Layout.{sizeOf, listPlaces, textPlaces, callOf, rowLength, endBefore, Reading, thenRead, reading}
-use Rattle.running.specs.WholeReply.{gathered}
 use Rattle.layout.proofs.LayoutLaws.{end-none}
 
 -- One call more at the end.
-
-pub gathered-more :
-    (f : Call → Reply → List ℕ) (s : State) (done : List Call) (call : Call)
-    → gathered f s (done ++ (call ∷ []))
-    ≡ gathered f s done ++ f call (replyTo (stateFrom s done) call)
-unfolding gathered stateFrom
-gathered-more f s [] call = append-nil _
-gathered-more f s (x ∷ done) call =
-    ap (λ l. f x (replyTo s x) ++ l) (gathered-more f (replyTo s x .state) done call) ∙ sym (append-assoc (f x (replyTo s x)) _ _)
-
-pub state-more : (s : State) (done : List Call) (call : Call) → stateFrom s (done ++ (call ∷ [])) ≡ replyTo (stateFrom s done) call .state
-unfolding stateFrom
-state-more s [] call = refl
-state-more s (x ∷ done) call = state-more (replyTo s x .state) done call
 
 pub wrote-more :
     (f : Call → Reply → List ℕ) (s : State) (done : List Call) (call : Call) (b : List ℕ)

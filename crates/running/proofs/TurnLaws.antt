@@ -9,15 +9,16 @@ use lib.Seq.{drop-drop}
 use borrow.Rule.Slice.PartMut.{putMid}
 use Rattle.rules.specs.declared.State.{State}
 use Rattle.rules.specs.Calls.{Call}
-use Rattle.rules.specs.History.{stateFrom}
+use Rattle.rules.specs.History.{stateFrom, gathered}
+use Rattle.rules.proofs.HistoryLaws.{state-more}
 use Rattle.laws.specs.Wrote.{Wrote}
 use Rattle.laws.proofs.Writing.{wrote-none}
 use Rattle.layout.specs.Layout.{word, headOf, sizeOf, listPlaces, textPlaces, callOf, rowLength, endBefore, reading}
-use Rattle.running.specs.WholeReply.{gathered, rowAdded, Ran, callsRead, ranFrom}
+use Rattle.running.specs.WholeReply.{rowAdded, Ran, callsRead, ranFrom}
 use Rattle.layout.specs.Layout.{listAdded, textAdded}
 use Rattle.making.specs.Making.{Lent, Answered}
 use Rattle.layout.proofs.LayoutLaws.{nonzero, size-is, end-most, Ahead, ahead-of}
-use Rattle.running.proofs.ReadingLaws.{state-more, wrote-more, reading-ends, behind, reading-goes, same-reading, same-length, untouched, part-length, rest-whole}
+use Rattle.running.proofs.ReadingLaws.{wrote-more, reading-ends, behind, reading-goes, same-reading, same-length, untouched, part-length, rest-whole}
 
 -- What is so at the head of each turn. A run starts from s with these slices; `at` numbers are read, and the first `row`, `listed` and `told`
 -- places of the slices are written.

@@ -2,22 +2,18 @@
 use Prim.Native.Nat.{ℕ}
 use mathlib.Core.Path.{_≡_}
 use mathlib.Core.Bool.{true}
-use mathlib.Core.List.{List, [], _∷_, _++_}
+use mathlib.Core.List.{List}
 use lib.ListN.{length}
 use Rattle.laws.specs.Bools.{if_then_else_}
 use Rattle.rules.specs.declared.Setup.{Setup}
 use Rattle.rules.specs.declared.State.{State}
 use Rattle.rules.specs.Setup.{setupInRange, freshState}
-use Rattle.rules.specs.Calls.{Reply, Call, written, replyTo}
+use Rattle.rules.specs.Calls.{Reply, Call, written}
+use Rattle.rules.specs.History.{gathered}
 use Rattle.rules.specs.Demand3.{Demand3, Companions}
 use Rattle.running.specs.declared.RunAnswer.{RunAnswer}
 use Rattle.running.specs.declared.RunEnd.{RunEnd}
 use Rattle.layout.specs.Layout.{answerRow, listAdded, textAdded, Reading, reading}
-
--- what each reply adds, one behind the other, where each call is handed the state as the one before left it
-unfoldable pub gathered : (Call → Reply → List ℕ) → State → List Call → List ℕ
-gathered f s [] = []
-gathered f s (call ∷ calls) = f call (replyTo s call) ++ gathered f (replyTo s call .state) calls
 
 abbrev pub rowAdded : Call → Reply → List ℕ
 rowAdded call r = answerRow (r .says)

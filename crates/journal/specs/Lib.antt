@@ -1,0 +1,5 @@
+pub mod Numbers
+pub mod Records
+pub mod Journals
+pub mod Replays
+pub mod Told

@@ -1,0 +1,116 @@
+-- The journal that is lent is as long as it was filled. Assumes nothing.
+use mathlib.Core.Path.{sym}
+use native.Mathlib.Omega.{arith}
+use lib.Seq.{length-take-le}
+use borrow.Author.Needs.{needs}
+use Rattle.journals.proofs.step.Statement.{statement}
+use Rattle.journals.proofs.step.Tie as tie
+
+write-all-requires : tie.Need-write-all-requires
+write-all-requires c κs = search needs
+
+skip-blanks-requires : tie.Need-skip-blanks-requires
+skip-blanks-requires c κs = search needs
+
+find-requires : tie.Need-find-requires
+find-requires c κs = search needs
+
+read-numbers-requires : tie.Need-read-numbers-requires
+read-numbers-requires c κs = search needs
+
+slice-aggregate-write-all : tie.Need-slice-aggregate-write-all
+slice-aggregate-write-all c = search needs
+
+write-all-requires-2 : tie.Need-write-all-requires-2
+write-all-requires-2 c κs = search needs
+
+same-length : tie.Need-same-length
+same-length c = search needs
+
+returns : tie.Need-returns
+returns c = search needs
+
+sub-fill : tie.Need-sub-fill
+sub-fill c = search needs
+
+part-fill-start : tie.Need-part-fill-start
+part-fill-start c = search needs
+
+part-fill-end : tie.Need-part-fill-end
+part-fill-end c = search needs
+
+fill-requires : tie.Need-fill-requires
+fill-requires c κs = search needs
+
+slice-aggregate-write-all-2 : tie.Need-slice-aggregate-write-all-2
+slice-aggregate-write-all-2 c = search needs
+
+write-all-requires-3 : tie.Need-write-all-requires-3
+write-all-requires-3 c κs = search needs
+
+sub-tell : tie.Need-sub-tell
+sub-tell c = search needs
+
+part-tell-start : tie.Need-part-tell-start
+part-tell-start c = search needs
+
+part-tell-end : tie.Need-part-tell-end
+part-tell-end c = search needs
+
+slice-reshare-prefix-tell : tie.Need-slice-reshare-prefix-tell
+slice-reshare-prefix-tell c = search needs
+
+slice-aggregate-tell : tie.Need-slice-aggregate-tell
+slice-aggregate-tell c = sym (length-take-le _ _ (omega arith))
+
+slice-read-tell : tie.Need-slice-read-tell
+slice-read-tell c = search needs
+
+tell-requires : tie.Need-tell-requires
+tell-requires c κs = search needs
+
+write-requires : tie.Need-write-requires
+write-requires c κs = search needs
+
+same-length-2 : tie.Need-same-length-2
+same-length-2 c = search needs
+
+same-length-3 : tie.Need-same-length-3
+same-length-3 c = search needs
+
+same-length-4 : tie.Need-same-length-4
+same-length-4 c = search needs
+
+returns-2 : tie.Need-returns-2
+returns-2 c = search needs
+
+pub step-spec : {M : Type 1} → statement M
+step-spec =
+    tie.close
+    (tie.spec
+    write-all-requires
+    skip-blanks-requires
+    find-requires
+    read-numbers-requires
+    slice-aggregate-write-all
+    write-all-requires-2
+    same-length
+    returns
+    sub-fill
+    part-fill-start
+    part-fill-end
+    fill-requires
+    slice-aggregate-write-all-2
+    write-all-requires-3
+    sub-tell
+    part-tell-start
+    part-tell-end
+    slice-reshare-prefix-tell
+    slice-aggregate-tell
+    slice-read-tell
+    tell-requires
+    write-requires
+    same-length-2
+    same-length-3
+    same-length-4
+    returns-2)
