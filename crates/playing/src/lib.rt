@@ -21,9 +21,9 @@ pub struct Played {
 }
 
 // Plays a record, with a job's destinations beside it. What it prints goes to a place of `out`, as far as there is room.
-pub fn play(s: State, what: Record, dests: [u64; 256], out: &mut [u8], at: usize) -> Played
-    ensures state { λ r. ⌜ r .state ≡ stateFrom s (callTold what dests) ⌝ }
-    ensures text { λ r. ⌜ Put (gathered printed s (callTold what dests)) (now (out .entry)) at (now (out .exit)) (r .length) ⌝ }
+pub fn play(s: State, what: Record, dests: &[u64], out: &mut [u8], at: usize) -> Played
+    ensures state { λ r. ⌜ r .state ≡ stateFrom s (callTold what (now (dests .entry))) ⌝ }
+    ensures text { λ r. ⌜ Put (gathered printed s (callTold what (now (dests .entry)))) (now (out .entry)) at (now (out .exit)) (r .length) ⌝ }
 {
     match what {
         Record::Name { .. } => left(s, at),
@@ -56,15 +56,15 @@ fn play_job(
     clock: u64,
     transport: u64,
     count: u64,
-    dests: [u64; 256],
+    dests: &[u64],
     out: &mut [u8],
     at: usize,
 ) -> Played
-    ensures state { λ r. ⌜ r .state ≡ stateFrom s (job clock transport (take count dests) lent ∷ []) ⌝ }
-    ensures text { λ r. ⌜ Put (gathered printed s (job clock transport (take count dests) lent ∷ [])) (now (out .entry)) at (now (out .exit)) (r .length) ⌝ }
+    ensures state { λ r. ⌜ r .state ≡ stateFrom s (job clock transport (take count (now (dests .entry))) lent ∷ []) ⌝ }
+    ensures text { λ r. ⌜ Put (gathered printed s (job clock transport (take count (now (dests .entry))) lent ∷ [])) (now (out .entry)) at (now (out .exit)) (r .length) ⌝ }
 {
     let mut list = [0u16; 512];
-    let many = at_most(count, 256);
+    let many = at_most(count, dests.len());
     let r = scheduler::take_job(s, clock, transport, &dests[..many], &mut list);
     let a = r.answer;
     let n = printing::put_job(out, at, a);

@@ -138,7 +138,7 @@ fn play_all(start: State, journal: &[u8], budget: u64, out: &mut [u8]) -> Standi
             }
             Read::Whole { what, next } => {
                 let dests = r.destinations;
-                let p = play(state, what, dests, out, length);
+                let p = play(state, what, &dests, out, length);
                 length = p.length;
                 state = p.state;
                 used += 1;

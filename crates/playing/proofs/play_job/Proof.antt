@@ -1,8 +1,6 @@
 -- The destinations that are lent are as many as told, or all. Assumes nothing.
-use Prim.Native.Nat.{min}
-use mathlib.Core.Path.{_≡_, refl, sym, _∙_, ap}
+use mathlib.Core.Path.{refl, sym}
 use native.Mathlib.Omega.{arith}
-use lib.ListN.{length}
 use lib.Seq.{length-take-le}
 use Rattle.lines.proofs.PutLaws.{take-most}
 use Rattle.playing.proofs.PlayLaws.{job-played}
@@ -12,9 +10,6 @@ use Rattle.playing.proofs.play_job.Tie as tie
 
 at-most-requires : tie.Need-at-most-requires
 at-most-requires c κs = search needs
-
-array-share-prefix-dests : tie.Need-array-share-prefix-dests
-array-share-prefix-dests c = search needs
 
 slice-aggregate-take-job : tie.Need-slice-aggregate-take-job
 slice-aggregate-take-job c = sym (length-take-le _ _ (omega arith))
@@ -38,12 +33,9 @@ same-length c = search needs
 abbrev sized : tie.After-left → tie.After-at-most
 sized c = c .before .before .before .before .before .before .before .before .before
 
-long : (c : tie.Start) → length (c .args .t5) ≡ 256
-long c = search needs
-
 returns : tie.Need-returns
 returns c =
-    let many = take-most _ _ _ (sized c .at-most .ensures ∙ ap (min _) (sym (long (sized c .before .before)))) refl in
+    let many = take-most _ _ _ (sized c .at-most .ensures) refl in
     job-played _ _ _ _ _ _ _ many (c .before .before .before .before .before .before .take-job .ensures)
     (c .before .before .before .put-job .ensures) (c .left .ensures)
 
@@ -52,7 +44,6 @@ play-job-spec =
     tie.close
     (tie.spec
     at-most-requires
-    array-share-prefix-dests
     slice-aggregate-take-job
     slice-aggregate-take-job-2
     take-job-requires

@@ -29,7 +29,7 @@ abbrev played : tie.After-state Inv-loop μ-loop → tie.After-play Inv-loop μ-
 played c = c .before .before .before
 
 abbrev known : tie.After-play Inv-loop μ-loop → tie.After-answer2 Inv-loop μ-loop
-known c = c .before .before .before .before
+known c = c .before .before .before .before .before
 
 abbrev read : tie.After-play Inv-loop μ-loop → tie.After-read-at Inv-loop μ-loop
 read c = known c .before .before
@@ -79,6 +79,9 @@ same-length-2 c = put-long (returns-2 c .1 .1)
 enum-known-answer-2 : tie.Need-enum-known-answer-2 Inv-loop μ-loop
 enum-known-answer-2 c = search needs
 
+slice-aggregate-play : tie.Need-slice-aggregate-play Inv-loop μ-loop
+slice-aggregate-play c = search needs
+
 play-requires : tie.Need-play-requires Inv-loop μ-loop
 play-requires c κs = search needs
 
@@ -122,6 +125,7 @@ play-all-spec =
     same-length-2
     returns-2
     enum-known-answer-2
+    slice-aggregate-play
     play-requires
     add-used
     loop-less
