@@ -12,7 +12,7 @@ use Rattle.rules.specs.Calls.{pick as pickCall}
 use Rattle.journal.specs.Numbers.{number, fault, above, groupsAt, shortest, wellWritten, numberAt}
 use Rattle.journal.specs.Records.{name, job, pick, report, end, refused, event, closed}
 use Rattle.journal.specs.Records.{ranged, fieldOf, nameFrom, nameFields, jobFrom, jobFields, pickFields, reportFields, fieldsOf, readAt}
-use Rattle.journal.specs.Told.{nameOf}
+use Rattle.journal.specs.Told.{nameOf, nameStart}
 use Rattle.journal.specs.Journals.{thenRead, journalFrom, journalOf}
 use Rattle.journal.specs.Replays.{callOf, callsOf, usedOf, callsUsed, closeUsed}
 
@@ -73,10 +73,17 @@ pub offsets-edge :
 unfolding readAt fieldsOf fieldOf ranged within pickFields reportFields numberAt wellWritten shortest groupsAt above if_then_else_
 offsets-edge = refl
 
--- a name behind a name, and where none stands
-pub name-edge : map (λ offset. nameOf (readAt (0 ∷ 5 ∷ 1 ∷ 200 ∷ 0 ∷ 6 ∷ 2 ∷ 0 ∷ 255 ∷ 2 ∷ 9 ∷ []) offset)) (0 ∷ 4 ∷ 9 ∷ 11 ∷ []) ≡ (200 ∷ []) ∷ (0 ∷ 255 ∷ []) ∷ [] ∷ [] ∷ []
+-- a name behind a name: its bytes, and where they begin; and where none stands
+abbrev pub twoNames : List ℕ
+twoNames = 0 ∷ 5 ∷ 1 ∷ 200 ∷ 0 ∷ 6 ∷ 2 ∷ 0 ∷ 255 ∷ 2 ∷ 9 ∷ []
+
+pub name-edge : map (λ offset. nameOf (readAt twoNames offset)) (0 ∷ 4 ∷ 9 ∷ 11 ∷ []) ≡ (200 ∷ []) ∷ (0 ∷ 255 ∷ []) ∷ [] ∷ [] ∷ []
 unfolding nameOf readAt fieldsOf fieldOf ranged within nameFields nameFrom pickFields numberAt wellWritten shortest groupsAt above if_then_else_
 name-edge = refl
+
+pub start-edge : map (λ offset. nameStart (readAt twoNames offset)) (0 ∷ 4 ∷ 9 ∷ 11 ∷ []) ≡ 3 ∷ 7 ∷ 0 ∷ 0 ∷ []
+unfolding nameStart readAt fieldsOf fieldOf ranged within nameFields nameFrom pickFields numberAt wellWritten shortest groupsAt above if_then_else_
+start-edge = refl
 
 -- A name and two picks, then a kind of 9. With a budget of 3 the replay stops before it looks there.
 

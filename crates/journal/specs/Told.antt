@@ -1,5 +1,5 @@
 -- How the reader tells what it finds: each case of its answer, a job's destinations beside it, and a name's bytes.
-use Prim.Native.Nat.{ℕ}
+use Prim.Native.Nat.{ℕ, _-_}
 use mathlib.Core.List.{List, []}
 use lib.ListN.{length}
 use Rattle.laws.specs.Sequence.{padded}
@@ -38,3 +38,11 @@ nameOf (event (job clock t dests) next) = []
 nameOf (event (pick clock) next) = []
 nameOf (event (report clock e ticket outcome) next) = []
 nameOf (closed c) = []
+
+-- where that part begins: the name is a record's last field
+unfoldable pub nameStart : Found → ℕ
+nameStart (event (name d bytes) next) = next - length bytes
+nameStart (event (job clock t dests) next) = 0
+nameStart (event (pick clock) next) = 0
+nameStart (event (report clock e ticket outcome) next) = 0
+nameStart (closed c) = 0

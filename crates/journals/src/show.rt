@@ -39,9 +39,7 @@ fn put_record(out: &mut [u8], what: Record, dests: &[u64], name: &[u8]) -> usize
             destination,
             length,
         } => {
-            let mut p = put(out, 0, b"name");
-            p = put_number(out, p, destination);
-            p = put_number(out, p, length);
+            let p = put_fields(out, b"name", [destination, length, 0], 2);
             put_bytes(out, p, name)
         }
         Record::Job {
@@ -49,29 +47,26 @@ fn put_record(out: &mut [u8], what: Record, dests: &[u64], name: &[u8]) -> usize
             transport,
             count,
         } => {
-            let mut p = put(out, 0, b"job");
-            p = put_number(out, p, clock);
-            p = put_number(out, p, transport);
-            p = put_number(out, p, count);
+            let p = put_fields(out, b"job", [clock, transport, count], 3);
             put_list(out, p, dests, count)
         }
-        Record::Pick { clock } => {
-            let p = put(out, 0, b"pick");
-            put_number(out, p, clock)
-        }
+        Record::Pick { clock } => put_fields(out, b"pick", [clock, 0, 0], 1),
         Record::Report {
             clock,
             entry,
             ticket,
             outcome,
         } => {
-            let mut p = put(out, 0, b"report");
-            p = put_number(out, p, clock);
-            p = put_number(out, p, entry);
-            p = put_number(out, p, ticket);
+            let p = put_fields(out, b"report", [clock, entry, ticket], 3);
             put_outcome(out, p, outcome)
         }
     }
+}
+
+// A word, and the first n of these numbers.
+fn put_fields(out: &mut [u8], word: &[u8], fields: [u64; 3], n: u64) -> usize {
+    let p = put(out, 0, word);
+    put_list(out, p, &fields, n)
 }
 
 fn put_outcome(out: &mut [u8], at: usize, outcome: Outcome) -> usize {

@@ -16,7 +16,7 @@ use Rattle.journal.specs.declared.Reading.{Reading}
 use Rattle.journal.specs.Numbers.{Number, number, fault, numberAt}
 use Rattle.journal.specs.Records.{name, job, pick, report, end, refused, Found, event, closed}
 use Rattle.journal.specs.Records.{anySize, ranged, fieldOf, field, nameFrom, nameFields, jobFrom, pickFields, reportFields, readAt}
-use Rattle.journal.specs.Told.{recordOf, answerOf, destinationsOf, readingOf, nameOf}
+use Rattle.journal.specs.Told.{recordOf, answerOf, destinationsOf, readingOf, nameOf, nameStart}
 use Rattle.journal.proofs.Extents.{Ends, read-ends}
 use Rattle.laws.proofs.Bools.{if-cases}
 use Rattle.reader.proofs.RecordLaws.{next-read}
@@ -153,25 +153,58 @@ part-fits bytes low (event (report clock e ticket outcome) next) h = tt
 part-fits bytes low (closed end) h = tt
 part-fits bytes low (closed (refused k offset)) h = tt
 
--- of what is read at an offset, where the case of the answer is known
-module _ (bytes : List ℕ) (offset : ℕ) {r : Reading} (h : r ≡ readingOf (readAt bytes offset)) where
-  pub name-told : {a : Read} → r .answer ≡ a → partOf bytes a ≡ nameOf (readAt bytes offset)
-  unfolding readingOf
-  name-told e = ap (partOf bytes) (sym e ∙ ap (λ x. x .answer) h) ∙ part-is bytes (offset + 2) (readAt bytes offset) (read-ends bytes offset)
+-- where the part begins, from the answer
+unfoldable pub startOf : Read → ℕ
+startOf (Read.Whole (Record.Name d size) next) = next - size
+startOf (Read.Whole (Record.Job clock t count) next) = 0
+startOf (Read.Whole (Record.Pick clock) next) = 0
+startOf (Read.Whole (Record.Report clock e ticket outcome) next) = 0
+startOf Read.End = 0
+startOf (Read.Refused k offset) = 0
 
-  pub name-fits : {a : Read} → r .answer ≡ a → PartFits bytes a
+start-is : (f : Found) → startOf (answerOf f) ≡ nameStart f
+unfolding startOf recordOf answerOf nameStart
+start-is (event (name d word) next) = refl
+start-is (event (job clock t dests) next) = refl
+start-is (event (pick clock) next) = refl
+start-is (event (report clock e ticket outcome) next) = refl
+start-is (closed end) = refl
+start-is (closed (refused k offset)) = refl
+
+-- Of what is read at an offset of a journal that lies at p, where the case of the answer is known: the part that is a name, by its bytes and its address.
+
+module _ (bytes : List ℕ) (offset : ℕ) {r : Reading} (h : r ≡ readingOf (readAt bytes offset)) where
+  told-as : {a : Read} → r .answer ≡ a → answerOf (readAt bytes offset) ≡ a
   unfolding readingOf
-  name-fits e = subst (PartFits bytes) (sym (ap (λ x. x .answer) h) ∙ e) (part-fits bytes (offset + 2) (readAt bytes offset) (read-ends bytes offset))
+  told-as e = sym (ap (λ x. x .answer) h) ∙ e
+
+  told-part : {a : Read} → r .answer ≡ a → partOf bytes a ≡ nameOf (readAt bytes offset)
+  told-part e = ap (partOf bytes) (sym (told-as e)) ∙ part-is bytes (offset + 2) (readAt bytes offset) (read-ends bytes offset)
+
+  told-start : {a : Read} → r .answer ≡ a → startOf a ≡ nameStart (readAt bytes offset)
+  told-start e = ap startOf (sym (told-as e)) ∙ start-is (readAt bytes offset)
+
+  abbrev Part : ℕ × ℕ → List ℕ → ℕ × ℕ → Type 0
+  Part p l q = (l ≡ nameOf (readAt bytes offset)) × (q ≡ (p .0, p .1 + nameStart (readAt bytes offset)))
+
+  -- no name
+  pub none-told : (p : ℕ × ℕ) {a : Read} → r .answer ≡ a → partOf bytes a ≡ [] → startOf a ≡ 0 → Part p [] p
+  none-told p e n z = (sym n ∙ told-part e, ap (λ k. (p .0, k)) (omega (arith, told-start e, z)))
 
   module _ {what : Record} {next : ℕ} (e : r .answer ≡ Read.Whole what next) where
-    pub record-told : {k : Record} → what ≡ k → partOf bytes (Read.Whole k next) ≡ nameOf (readAt bytes offset)
-    record-told f = name-told (e ∙ ap (λ w. Read.Whole w next) f)
+    as-record : {k : Record} → what ≡ k → r .answer ≡ Read.Whole k next
+    as-record f = e ∙ ap (λ w. Read.Whole w next) f
 
-    pub record-fits : {k : Record} → what ≡ k → PartFits bytes (Read.Whole k next)
-    record-fits f = name-fits (e ∙ ap (λ w. Read.Whole w next) f)
+    pub no-name-told : (p : ℕ × ℕ) {k : Record} → what ≡ k → partOf bytes (Read.Whole k next) ≡ [] → startOf (Read.Whole k next) ≡ 0 → Part p [] p
+    no-name-told p f = none-told p (as-record f)
 
-    pub part-told : {d size : ℕ} → what ≡ Record.Name d size → take (next - (next - size)) (drop (next - size) bytes) ≡ nameOf (readAt bytes offset)
-    unfolding partOf
-    part-told {size = size} f =
-        let whole : next - (next - size) ≡ size = omega (arith, record-fits f .0) in
-        ap (λ k. take k (drop (next - size) bytes)) whole ∙ record-told f
+    module _ {d size : ℕ} (f : what ≡ Record.Name d size) where
+      pub part-within : (size ≤ next) × (next ≤ length bytes)
+      part-within = subst (PartFits bytes) (told-as (as-record f)) (part-fits bytes (offset + 2) (readAt bytes offset) (read-ends bytes offset))
+
+      pub part-told : (p : ℕ × ℕ) → Part p (take (next - (next - size)) (drop (next - size) bytes)) (p .0, next - size + p .1)
+      unfolding partOf startOf
+      part-told p =
+          let whole : next - (next - size) ≡ size = omega (arith, part-within .0) in
+          let start : next - size ≡ nameStart (readAt bytes offset) = told-start (as-record f) in
+          (ap (λ k. take k (drop (next - size) bytes)) whole ∙ told-part (as-record f), ap (λ k. (p .0, k)) (omega (arith, start)))

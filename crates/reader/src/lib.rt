@@ -6,10 +6,11 @@ use journal::Reading;
 use journal::Record;
 use rules::Outcome;
 ghost use mathlib.Core.Path.{_≡_};
+ghost use Prim.Native.Nat.{_+_};
 ghost use mathlib.Core.List.{[]};
 ghost use Rattle.laws.specs.Sequence.{padded};
 ghost use Rattle.journal.specs.Records.{report, refused, event, closed, nameFields, jobFields, pickFields, reportFields, readAt};
-ghost use Rattle.journal.specs.Told.{answerOf, readingOf, nameOf};
+ghost use Rattle.journal.specs.Told.{answerOf, readingOf, nameOf, nameStart};
 
 // What stands at an offset.
 pub fn read_at(journal: &[u8], offset: usize) -> Reading
@@ -34,9 +35,11 @@ pub fn read_at(journal: &[u8], offset: usize) -> Reading
     alone(read_report(journal, offset, kind.next))
 }
 
-// The name that stands at a record's offset, as that very part of the journal; where none stands there, an empty part.
+// The name that stands at a record's offset, as that very part of the journal: its bytes, where they lie. Where none stands
+// there, an empty part.
 pub fn name_at(journal: &[u8], offset: usize) -> &[u8]
-    ensures { λ r. ⌜ now r ≡ nameOf (readAt (now (journal .entry)) offset) ⌝ }
+    ensures bytes { λ r. ⌜ now r ≡ nameOf (readAt (now (journal .entry)) offset) ⌝ }
+    ensures place { λ r. ⌜ r .ptr ≡ (journal .entry .ptr .0, journal .entry .ptr .1 + nameStart (readAt (now (journal .entry)) offset)) ⌝ }
 {
     let r = read_at(journal, offset);
     let answer = r.answer;

@@ -46,7 +46,7 @@ pub fn replay(journal: &[u8], budget: u64, out: &mut [u8]) -> Replayed
 }
 
 // The set-up that every replay starts from: docs/REPLAY.md.
-pub fn setup() -> Setup
+fn setup() -> Setup
     ensures { λ r. ⌜ r ≡ replaySetup ⌝ }
 {
     let f = Feedback {

@@ -1,6 +1,7 @@
 -- A name stands just before its record's end. Assumes nothing.
+use mathlib.Core.Path.{refl}
 use borrow.Author.Needs.{needs}
-use Rattle.reader.proofs.ReadingLaws.{partOf, name-told, record-told, record-fits, part-told}
+use Rattle.reader.proofs.ReadingLaws.{partOf, startOf, none-told, no-name-told, part-within, part-told}
 use Rattle.reader.proofs.name_at.Statement.{statement}
 use Rattle.reader.proofs.name_at.Tie as tie
 
@@ -14,7 +15,7 @@ enum-known-what : tie.Need-enum-known-what
 enum-known-what c = search needs
 
 sub-start : tie.Need-sub-start
-sub-start c = record-fits _ _ (c .before .before .before .before .before .before .read-at .ensures) (c .before .before .before .before .answer .given .1) (c .before .what .given .1) .0
+sub-start c = part-within _ _ (c .before .before .before .before .before .before .read-at .ensures) (c .before .before .before .before .answer .given .1) (c .before .what .given .1) .0
 
 sub-result : tie.Need-sub-result
 sub-result c = search needs
@@ -23,7 +24,7 @@ part-result-start : tie.Need-part-result-start
 part-result-start c = search needs
 
 part-result-end : tie.Need-part-result-end
-part-result-end c = record-fits _ _ (c .before .before .before .before .before .before .read-at .ensures) (c .before .before .before .before .answer .given .1) (c .before .what .given .1) .1
+part-result-end c = part-within _ _ (c .before .before .before .before .before .before .read-at .ensures) (c .before .before .before .before .answer .given .1) (c .before .what .given .1) .1
 
 enum-told : tie.Need-enum-told
 enum-told c = search needs
@@ -56,27 +57,27 @@ slice-aggregate-result-5 : tie.Need-slice-aggregate-result-5
 slice-aggregate-result-5 c = search needs
 
 returns : tie.Need-returns
-returns c = part-told _ _ (c .before .before .before .before .before .before .before .read-at .ensures) (c .before .before .before .before .before .answer .given .1) (c .before .before .what .given .1)
+returns c = part-told _ _ (c .before .before .before .before .before .before .before .read-at .ensures) (c .before .before .before .before .before .answer .given .1) (c .before .before .what .given .1) _
 
 returns-2 : tie.Need-returns-2
-unfolding partOf
-returns-2 c = record-told _ _ (c .before .before .before .before .before .before .read-at .ensures) (c .before .before .before .before .answer .given .1) (c .before .enum-told .given .1)
+unfolding partOf startOf
+returns-2 c = no-name-told _ _ (c .before .before .before .before .before .before .read-at .ensures) (c .before .before .before .before .answer .given .1) _ (c .before .enum-told .given .1) refl refl
 
 returns-3 : tie.Need-returns-3
-unfolding partOf
-returns-3 c = record-told _ _ (c .before .before .before .before .before .before .read-at .ensures) (c .before .before .before .before .answer .given .1) (c .before .enum-told2 .given .1)
+unfolding partOf startOf
+returns-3 c = no-name-told _ _ (c .before .before .before .before .before .before .read-at .ensures) (c .before .before .before .before .answer .given .1) _ (c .before .enum-told2 .given .1) refl refl
 
 returns-4 : tie.Need-returns-4
-unfolding partOf
-returns-4 c = record-told _ _ (c .before .before .before .before .before .before .read-at .ensures) (c .before .before .before .before .answer .given .1) (c .before .enum-told3 .given .1)
+unfolding partOf startOf
+returns-4 c = no-name-told _ _ (c .before .before .before .before .before .before .read-at .ensures) (c .before .before .before .before .answer .given .1) _ (c .before .enum-told3 .given .1) refl refl
 
 returns-5 : tie.Need-returns-5
-unfolding partOf
-returns-5 c = name-told _ _ (c .before .before .before .read-at .ensures) (c .before .enum-told4 .given .1)
+unfolding partOf startOf
+returns-5 c = none-told _ _ (c .before .before .before .read-at .ensures) _ (c .before .enum-told4 .given .1) refl refl
 
 returns-6 : tie.Need-returns-6
-unfolding partOf
-returns-6 c = name-told _ _ (c .before .before .before .read-at .ensures) (c .before .enum-told5 .given .1)
+unfolding partOf startOf
+returns-6 c = none-told _ _ (c .before .before .before .read-at .ensures) _ (c .before .enum-told5 .given .1) refl refl
 
 pub name-at-spec : {M : Type 1} → statement M
 name-at-spec =
