@@ -14,7 +14,7 @@ use Rattle.journal.specs.Records.{name, job, pick, report, end, refused,
 use Rattle.journal.specs.Records.{ranged, fieldOf, nameFrom, nameFields, jobFrom, jobFields, pickFields, reportFields, fieldsOf, readAt}
 use Rattle.journal.specs.Told.{nameOf, nameStart}
 use Rattle.journal.specs.Journals.{thenRead, journalFrom, journalOf}
-use Rattle.journal.specs.Replays.{callOf, callsOf, usedOf, callsUsed, closeUsed}
+use Rattle.journal.specs.Replays.{callOf, callsOf, eventsUsed, callsUsed, countUsed, closeUsed}
 
 -- so many groups with the top bit set and no other
 abbrev pub tops : ℕ → List ℕ
@@ -94,14 +94,14 @@ pub journal-edge : journalOf damaged ≡ record { events = name 5 (65 ∷ []) �
 unfolding journalOf journalFrom thenRead readAt fieldsOf fieldOf ranged within nameFields nameFrom pickFields numberAt wellWritten shortest groupsAt above if_then_else_
 journal-edge = refl
 
-pub used-edge : map (usedOf (journalOf damaged)) (0 ∷ 1 ∷ 2 ∷ 3 ∷ 4 ∷ 18_446_744_073_709_551_615 ∷ []) ≡ 0 ∷ 1 ∷ 2 ∷ 3 ∷ 3 ∷ 3 ∷ []
-unfolding usedOf callsOf callOf
+pub used-edge : map (countUsed (journalOf damaged)) (0 ∷ 1 ∷ 2 ∷ 3 ∷ 4 ∷ 18_446_744_073_709_551_615 ∷ []) ≡ 0 ∷ 1 ∷ 2 ∷ 3 ∷ 3 ∷ 3 ∷ []
+unfolding eventsUsed countUsed callsUsed callsOf callOf
 used-edge = rw journal-edge refl
 
 pub calls-edge :
     map (callsUsed (journalOf damaged)) (0 ∷ 1 ∷ 2 ∷ 3 ∷ 4 ∷ [])
     ≡ [] ∷ [] ∷ (pickCall 5 ∷ []) ∷ (pickCall 5 ∷ pickCall 6 ∷ []) ∷ (pickCall 5 ∷ pickCall 6 ∷ []) ∷ []
-unfolding callsUsed callsOf callOf
+unfolding eventsUsed callsUsed callsOf callOf
 calls-edge = rw journal-edge refl
 
 pub close-edge : map (closeUsed (journalOf damaged)) (0 ∷ 2 ∷ 3 ∷ 4 ∷ []) ≡ end ∷ end ∷ end ∷ refused 14 8 ∷ []

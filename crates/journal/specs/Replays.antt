@@ -1,5 +1,5 @@
 -- Request A1: what a replay uses of a journal. "A replay may be given a number of records ..; it stops there and says how many it used".
-use Prim.Native.Nat.{ℕ, min}
+use Prim.Native.Nat.{ℕ}
 use mathlib.Core.Path.{_≡_}
 use mathlib.Core.List.{List, [], _∷_, _++_}
 use lib.ListN.{length, take, replicate}
@@ -28,12 +28,15 @@ unfoldable pub callsOf : List Event → List Call
 callsOf [] = []
 callsOf (e ∷ events) = callOf e ++ callsOf events
 
--- every record that is read counts, names too
-unfoldable pub usedOf : Journal → ℕ → ℕ
-usedOf j budget = min budget (length (j .events))
+-- the records that it uses, their calls, and "how many": every record that is read counts, names too
+unfoldable pub eventsUsed : Journal → ℕ → List Event
+eventsUsed j budget = take budget (j .events)
 
 unfoldable pub callsUsed : Journal → ℕ → List Call
-callsUsed j budget = callsOf (take budget (j .events))
+callsUsed j budget = callsOf (eventsUsed j budget)
+
+unfoldable pub countUsed : Journal → ℕ → ℕ
+countUsed j budget = length (eventsUsed j budget)
 
 -- "a refused record .. ends it, uncounted": a replay that its budget ends comes to none
 unfoldable pub closeUsed : Journal → ℕ → Close

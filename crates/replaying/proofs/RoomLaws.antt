@@ -22,7 +22,7 @@ use Rattle.lines.specs.Texts.{Put, moveWord}
 use Rattle.journal.specs.Records.{Event, Close, end, refused}
 use Rattle.journal.specs.Records.{name as nameRecord, job as jobRecord, pick as pickRecord, report as reportRecord}
 use Rattle.journal.specs.Journals.{Journal}
-use Rattle.journal.specs.Replays.{callOf, callsOf, usedOf, callsUsed, closeUsed}
+use Rattle.journal.specs.Replays.{callOf, callsOf, eventsUsed, callsUsed, countUsed, closeUsed}
 use Rattle.playing.specs.Plays.{acceptedLine, numberLine, printed}
 use Rattle.replaying.specs.Replay.{replaySetup, closeLine, playedText, endText, replayText}
 use Rattle.replaying.proofs.BoardLaws.{board-after}
@@ -104,13 +104,13 @@ close-short end = omega arith
 close-short (refused k offset) = simp length-append (omega (arith, decimal-length k, decimal-length offset))
 
 pub text-fits : (j : Journal) (n budget : ℕ) → 2 * length (j .events) ≤ n → length (replayText j budget) ≤ 5 * n + 4096
-unfolding replayText playedText endText callsUsed usedOf
+unfolding replayText playedText endText callsUsed eventsUsed
 text-fits j n budget h =
     let calls = gathered-short (freshState replaySetup) (callsUsed j budget) in
     let few = calls-few (take budget (j .events)) in
     let used = length-take budget (j .events) in
     let close = close-short (closeUsed j budget) in
-    simp length-append (omega (arith, calls, few, used, close, decimal-length (usedOf j budget), board-after (callsUsed j budget)))
+    simp length-append (omega (arith, calls, few, used, close, decimal-length (countUsed j budget), board-after (callsUsed j budget)))
 
 -- A text that has room is stored whole.
 pub text-whole : {text entry exit : List ℕ} {r : ℕ} → Put text entry 0 exit r → length text ≤ length entry → take r exit ≡ text

@@ -16,7 +16,7 @@ use Rattle.lines.specs.Texts.{Put}
 use Rattle.lines.proofs.PutLaws.{put-none, put-more, put-as}
 use Rattle.journal.specs.Records.{Event, Close, end, event, closed, readAt}
 use Rattle.journal.specs.Journals.{journalFrom, journalOf}
-use Rattle.journal.specs.Replays.{callOf, callsOf, usedOf, callsUsed, closeUsed}
+use Rattle.journal.specs.Replays.{callOf, callsOf, eventsUsed, callsUsed, countUsed, closeUsed}
 use Rattle.playing.specs.Plays.{printed}
 use Rattle.replaying.specs.Replay.{replaySetup, closeLine, playedText}
 use Rattle.replaying.proofs.JournalLaws.{journal-closes, record-ends, journal-goes}
@@ -63,7 +63,7 @@ starts bytes entry budget h =
 abbrev pub Ended : List ℕ → List ℕ → ℕ → State → ℕ → ℕ → List ℕ → Type 0
 Ended bytes entry budget state used n out =
     (state ≡ stateAfter replaySetup (callsUsed (journalOf bytes) budget))
-    × ((used ≡ usedOf (journalOf bytes) budget) × Put (playedText (journalOf bytes) budget) entry 0 out n)
+    × ((used ≡ countUsed (journalOf bytes) budget) × Put (playedText (journalOf bytes) budget) entry 0 out n)
 
 module _ {bytes entry : List ℕ} {budget : ℕ} {state : State} {used at n : ℕ} {out : List ℕ} (p : Playing bytes entry budget state used at n out) where
   -- a record is played: the next turn
@@ -95,12 +95,12 @@ module _ {bytes entry : List ℕ} {budget : ℕ} {state : State} {used at n : �
 
   -- the budget ends it: of the journal so many records are played, and nothing is put behind
   pub full : budget ≤ used → Ended bytes entry budget state used n out
-  unfolding stateAfter playedText usedOf callsUsed closeUsed closeLine if_then_else_
+  unfolding stateAfter playedText eventsUsed countUsed callsUsed closeUsed closeLine if_then_else_
   full h =
       let last : length (p .done) ≡ budget = omega (arith, h, p .within, p .count) in
       let most : budget ≤ length (journalOf bytes .events) = rw (p .events, length-append) (omega (arith, last)) in
       let taken : take budget (journalOf bytes .events) ≡ p .done = ap (take budget) (p .events) ∙ take-at (p .done) _ budget last in
-      (rw taken (p .reached), (omega (arith, most, last, p .count), rw (taken, le-leb budget _ most, append-nil) (p .put)))
+      (rw taken (p .reached), (rw taken (p .count), rw (taken, le-leb budget _ most, append-nil) (p .put)))
 
   -- it closes: all its records are played, and what closes it is put behind
   pub closes :
@@ -109,7 +109,7 @@ module _ {bytes entry : List ℕ} {budget : ℕ} {state : State} {used at n : �
       → readAt bytes at ≡ closed c
       → Put (closeLine c) out n out2 n2
       → Ended bytes entry budget state used n2 out2
-  unfolding stateAfter playedText usedOf callsUsed closeUsed if_then_else_
+  unfolding stateAfter playedText eventsUsed countUsed callsUsed closeUsed if_then_else_
   closes {c} h found put =
       let rest = journal-closes bytes at (p .left) (p .enough) found in
       let all : journalOf bytes .events ≡ p .done = p .events ∙ ap (λ j. p .done ++ j .events) rest ∙ append-nil (p .done) in
@@ -117,7 +117,7 @@ module _ {bytes entry : List ℕ} {budget : ℕ} {state : State} {used at n : �
       let short : length (p .done) < budget = omega (arith, h, p .count) in
       let taken : take budget (p .done) ≡ p .done = take-all budget (p .done) (omega (arith, short)) in (
         rw (all, taken) (p .reached),
-        (rw all (omega (arith, short, p .count)), rw (all, close, taken, lt-leb budget _ short) (put-more (p .put) put)),
+        (rw (all, taken) (p .count), rw (all, close, taken, lt-leb budget _ short) (put-more (p .put) put)),
       )
 
   pub closes-end : used < budget → readAt bytes at ≡ closed end → Ended bytes entry budget state used n out

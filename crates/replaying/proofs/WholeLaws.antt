@@ -15,7 +15,7 @@ use Rattle.rules.proofs.Replies.{start-is}
 use Rattle.lines.specs.Texts.{Put}
 use Rattle.lines.proofs.PutLaws.{put-more, put-as}
 use Rattle.journal.specs.Journals.{journalOf}
-use Rattle.journal.specs.Replays.{usedOf}
+use Rattle.journal.specs.Replays.{countUsed}
 use Rattle.replaying.specs.Replay.{BoardFits, replaySetup, endText, replayText}
 use Rattle.replaying.proofs.BoardLaws.{in-range, board-fits}
 use Rattle.replaying.proofs.RoomLaws.{text-fits, text-whole}
@@ -33,11 +33,11 @@ pub replayed :
     (bytes entry : List ℕ) (budget : ℕ) {state : State} {used n n2 : ℕ} {out out2 : List ℕ}
     → Ended bytes entry budget state used n out
     → Put (endText used state) out n out2 n2
-    → (used ≡ usedOf (journalOf bytes) budget)
+    → (used ≡ countUsed (journalOf bytes) budget)
     × (Put (replayText (journalOf bytes) budget) entry 0 out2 n2
     × (5 * length bytes + 4096 ≤ length entry → take n2 out2 ≡ replayText (journalOf bytes) budget))
 unfolding replayText
 replayed bytes entry budget {state} {n2 = n2} {out2 = out2} ended put =
-    let same = ap (λ k. endText k state) (ended .1 .0) ∙ ap (endText (usedOf (journalOf bytes) budget)) (ended .0) in
+    let same = ap (λ k. endText k state) (ended .1 .0) ∙ ap (endText (countUsed (journalOf bytes) budget)) (ended .0) in
     let all : Put (replayText (journalOf bytes) budget) entry 0 out2 n2 = put-more (ended .1 .1) (put-as same put) in
     (ended .1 .0, (all, λ room. text-whole all (le-trans (text-fits (journalOf bytes) (length bytes) budget (events-few bytes)) room)))

@@ -16,7 +16,7 @@ use Rattle.rules.specs.Board.{decimal, lineEnd, numbered, boardText}
 use Rattle.rules.specs.History.{stateAfter, gathered}
 use Rattle.journal.specs.Records.{Close, end, refused}
 use Rattle.journal.specs.Journals.{Journal}
-use Rattle.journal.specs.Replays.{usedOf, callsUsed, closeUsed}
+use Rattle.journal.specs.Replays.{countUsed, callsUsed, closeUsed}
 use Rattle.playing.specs.Plays.{numberLine, printed}
 
 -- "It starts from one set-up written down in docs/": docs/REPLAY.md. The order of the fields is that of document 01.
@@ -63,7 +63,7 @@ unfoldable pub endText : ℕ → State → List ℕ
 endText used s = numberLine used ++ boardText s
 
 unfoldable pub replayText : Journal → ℕ → List ℕ
-replayText j budget = playedText j budget ++ endText (usedOf j budget) (stateAfter replaySetup (callsUsed j budget))
+replayText j budget = playedText j budget ++ endText (countUsed j budget) (stateAfter replaySetup (callsUsed j budget))
 
 -- What the end asks of the state: the board text is granted, and has room.
 pub record BoardFits (s : State) : Type 0 where

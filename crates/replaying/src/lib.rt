@@ -18,7 +18,7 @@ ghost use Rattle.rules.specs.History.{stateAfter};
 ghost use Rattle.lines.specs.Texts.{Put};
 ghost use Rattle.journal.specs.Records.{refused};
 ghost use Rattle.journal.specs.Journals.{journalOf};
-ghost use Rattle.journal.specs.Replays.{usedOf, callsUsed};
+ghost use Rattle.journal.specs.Replays.{countUsed, callsUsed};
 ghost use Rattle.replaying.specs.Replay.{BoardFits, replaySetup, closeLine, playedText, endText, replayText};
 
 // How many records were used, and how many bytes of text stand in the lent buffer.
@@ -30,7 +30,7 @@ pub struct Replayed {
 // Replays at most `budget` records of a journal, and puts what that prints at the start of `out`. What would stand past
 // the buffer's end is left out; five bytes for each of the journal and 4,096 more hold every text.
 pub fn replay(journal: &[u8], budget: u64, out: &mut [u8]) -> Replayed
-    ensures used { λ r. ⌜ r .used ≡ usedOf (journalOf (now (journal .entry))) budget ⌝ }
+    ensures used { λ r. ⌜ r .used ≡ countUsed (journalOf (now (journal .entry))) budget ⌝ }
     ensures text { λ r. ⌜ Put (replayText (journalOf (now (journal .entry))) budget) (now (out .entry)) 0 (now (out .exit)) (r .length) ⌝ }
     ensures whole { λ r. ⌜ (5 * length (now (journal .entry)) + 4096 ≤ length (now (out .entry))
         → take (r .length) (now (out .exit)) ≡ replayText (journalOf (now (journal .entry))) budget) ⌝ }
@@ -118,7 +118,7 @@ struct Standing {
 fn play_all(start: State, journal: &[u8], budget: u64, out: &mut [u8]) -> Standing
     requires { ⌜ start ≡ freshState replaySetup ⌝ }
     ensures state { λ r. ⌜ r .state ≡ stateAfter replaySetup (callsUsed (journalOf (now (journal .entry))) budget) ⌝ }
-    ensures used { λ r. ⌜ r .used ≡ usedOf (journalOf (now (journal .entry))) budget ⌝ }
+    ensures used { λ r. ⌜ r .used ≡ countUsed (journalOf (now (journal .entry))) budget ⌝ }
     ensures text { λ r. ⌜ Put (playedText (journalOf (now (journal .entry))) budget) (now (out .entry)) 0 (now (out .exit)) (r .length) ⌝ }
 {
     let mut state = start;
