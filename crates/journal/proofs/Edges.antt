@@ -4,10 +4,7 @@ use mathlib.Core.Path.{_≡_, refl}
 use mathlib.Core.List.{List, [], _∷_, _++_, map}
 use lib.ListN.{replicate}
 use Rattle.laws.specs.Bools.{if_then_else_}
-use Rattle.rules.specs.declared.Outcome.{Outcome}
-use Rattle.rules.specs.declared.Outcome.the-variants
 use Rattle.rules.specs.Setup.{within}
-use Rattle.rules.specs.Calls.{outcomeOf}
 use Rattle.rules.specs.Calls.{pick as pickCall}
 use Rattle.journal.specs.Numbers.{number, fault, above, groupsAt, shortest, wellWritten, numberAt}
 use Rattle.journal.specs.Records.{name, job, pick, report, end, refused, event, closed}
@@ -56,9 +53,9 @@ pub records-edge :
     ≡ closed (refused 14 0) ∷ closed (refused 14 0) ∷ closed (refused 12 0) ∷ closed (refused 12 0) ∷ closed (refused 14 0)
     ∷ closed (refused 14 0) ∷ closed (refused 14 0) ∷ closed (refused 12 0) ∷ event (name 31 (65 ∷ [])) 4 ∷ event (name 31 (replicate 63 65)) 66
     ∷ closed (refused 14 0) ∷ closed (refused 14 0) ∷ closed (refused 12 0) ∷ event (job 7 200 (9 ∷ 200 ∷ [])) 8
-    ∷ closed (refused 12 0) ∷ event (pick 9) 2 ∷ event (report 9 8 7 Outcome.Success) 5 ∷ event (report 9 8 7 Outcome.Failure) 5
+    ∷ closed (refused 12 0) ∷ event (pick 9) 2 ∷ event (report 9 8 7 0) 5 ∷ event (report 9 8 7 1) 5
     ∷ closed (refused 14 0) ∷ closed (refused 12 0) ∷ []
-unfolding readAt fieldsOf fieldOf ranged within nameFields nameFrom jobFields jobFrom pickFields reportFields outcomeOf numberAt wellWritten shortest groupsAt above if_then_else_
+unfolding readAt fieldsOf fieldOf ranged within nameFields nameFrom jobFields jobFrom pickFields reportFields numberAt wellWritten shortest groupsAt above if_then_else_
 records-edge = refl
 
 -- the most destinations that a job has

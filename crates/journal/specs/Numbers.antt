@@ -28,12 +28,16 @@ groupsAt (suc most) bytes offset =
     else if ltb (at bytes offset) 128 then number (at bytes offset) (offset + 1)
     else above (at bytes offset - 128) (groupsAt most bytes (offset + 1))
 
+-- "below 2^32"
+abbrev pub small : ℕ → Bool
+small x = ltb x 4_294_967_296
+
 -- "shortest form only": one group, or as many as it takes
 unfoldable pub shortest : ℕ → ℕ → Bool
 shortest groups x = eqb groups 1 || leb (128 ^ (groups - 1)) x
 
 unfoldable pub wellWritten : ℕ → Number → Number
-wellWritten offset (number x next) = if shortest (next - offset) x && ltb x 4_294_967_296 then number x next else fault 13
+wellWritten offset (number x next) = if shortest (next - offset) x && small x then number x next else fault 13
 wellWritten offset (fault k) = fault k
 
 -- "at most five groups and below 2^32"

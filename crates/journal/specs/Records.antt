@@ -6,9 +6,7 @@ use mathlib.Core.List.{List, [], _∷_, _++_}
 use lib.ListN.{length, take, drop}
 use lib.Dec.{eqb, leb}
 use Rattle.laws.specs.Bools.{if_then_else_}
-use Rattle.rules.specs.declared.Outcome.{Outcome}
 use Rattle.rules.specs.Setup.{within}
-use Rattle.rules.specs.Calls.{outcomeOf}
 use Rattle.journal.specs.Numbers.{Number, number, fault, numberAt}
 
 -- a record's fields
@@ -20,7 +18,7 @@ pub data Event : Type 0 where
   -- clock
   pick : ℕ → Event
   -- clock, entry, ticket, outcome
-  report : ℕ → ℕ → ℕ → Outcome → Event
+  report : ℕ → ℕ → ℕ → ℕ → Event
 
 -- how a journal closes: at its end, or with a record that is refused, by its number and the record's offset
 pub data Close : Type 0 where
@@ -32,9 +30,26 @@ pub data Found : Type 0 where
   event : Event → ℕ → Found
   closed : Close → Found
 
+-- The ranges of the fields.
+
 -- a number of any size: clock, transport, entry, ticket, a destination
 abbrev pub anySize : ℕ → Bool
 anySize x = true
+
+-- "number 0 to 31, name length 1 to 63"
+abbrev pub nameNumber : ℕ → Bool
+nameNumber = within 0 31
+
+abbrev pub nameLength : ℕ → Bool
+nameLength = within 1 63
+
+-- "count 1 to 256"
+abbrev pub jobCount : ℕ → Bool
+jobCount = within 1 256
+
+-- "0 success or 1 failure"
+abbrev pub reportOutcome : ℕ → Bool
+reportOutcome = within 0 1
 
 -- 14: "well-written", and outside its range
 unfoldable pub ranged : (ℕ → Bool) → Number → Number
@@ -61,8 +76,8 @@ module _ (bytes : List ℕ) (start : ℕ) where
   -- "0 name a destination (number 0 to 31, name length 1 to 63, the name)"
   unfoldable pub nameFields : ℕ → Found
   nameFields offset =
-      field offset (within 0 31) (λ d offset.
-      field offset (within 1 63) (λ size offset.
+      field offset nameNumber (λ d offset.
+      field offset nameLength (λ size offset.
       nameFrom d size offset))
 
   -- so many destinations more, behind those that are read
@@ -77,7 +92,7 @@ module _ (bytes : List ℕ) (start : ℕ) where
   jobFields offset =
       field offset anySize (λ clock offset.
       field offset anySize (λ t offset.
-      field offset (within 1 256) (λ count offset.
+      field offset jobCount (λ count offset.
       jobFrom clock t [] count offset)))
 
   -- "2 pick (clock)"
@@ -92,8 +107,8 @@ module _ (bytes : List ℕ) (start : ℕ) where
       field offset anySize (λ clock offset.
       field offset anySize (λ e offset.
       field offset anySize (λ ticket offset.
-      field offset (within 0 1) (λ outcome offset.
-      event (report clock e ticket (outcomeOf outcome)) offset))))
+      field offset reportOutcome (λ outcome offset.
+      event (report clock e ticket outcome) offset))))
 
   unfoldable pub fieldsOf : ℕ → ℕ → Found
   fieldsOf kind offset =

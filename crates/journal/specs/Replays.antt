@@ -7,7 +7,7 @@ use lib.Dec.{leb}
 use Rattle.laws.specs.Bools.{if_then_else_}
 use Rattle.rules.specs.declared.State.{State}
 use Rattle.rules.specs.Sizes.{maxEntries}
-use Rattle.rules.specs.Calls.{Call}
+use Rattle.rules.specs.Calls.{Call, outcomeOf}
 use Rattle.rules.specs.Calls.{job as jobCall, pick as pickCall, report as reportCall}
 use Rattle.rules.specs.History.{stateFrom}
 use Rattle.journal.specs.Records.{Event, name, job, pick, report, Close, end}
@@ -22,7 +22,7 @@ unfoldable pub callOf : Event → List Call
 callOf (name d bytes) = []
 callOf (job clock t dests) = jobCall clock t dests lent ∷ []
 callOf (pick clock) = pickCall clock ∷ []
-callOf (report clock e ticket outcome) = reportCall clock e ticket outcome lent ∷ []
+callOf (report clock e ticket outcome) = reportCall clock e ticket (outcomeOf outcome) lent ∷ []
 
 unfoldable pub callsOf : List Event → List Call
 callsOf [] = []

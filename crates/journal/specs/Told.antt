@@ -3,6 +3,7 @@ use Prim.Native.Nat.{ℕ, _-_}
 use mathlib.Core.List.{List, []}
 use lib.ListN.{length}
 use Rattle.laws.specs.Sequence.{padded}
+use Rattle.rules.specs.Calls.{outcomeOf}
 use Rattle.journal.specs.declared.Record.{Record}
 use Rattle.journal.specs.declared.Record.the-variants
 use Rattle.journal.specs.declared.Read.{Read}
@@ -13,7 +14,7 @@ unfoldable pub recordOf : Event → Record
 recordOf (name d bytes) = Record.Name d (length bytes)
 recordOf (job clock t dests) = Record.Job clock t (length dests)
 recordOf (pick clock) = Record.Pick clock
-recordOf (report clock e ticket outcome) = Record.Report clock e ticket outcome
+recordOf (report clock e ticket outcome) = Record.Report clock e ticket (outcomeOf outcome)
 
 unfoldable pub answerOf : Found → Read
 answerOf (event e next) = Read.Whole (recordOf e) next

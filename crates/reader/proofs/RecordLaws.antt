@@ -7,13 +7,10 @@ use native.Mathlib.Omega.{arith}
 use lib.ListN.{length, take, drop, length-drop}
 use lib.Seq.{length-take-le}
 use lib.Dec.{leb}
-use borrow.Author.Tests.{leb-true, le-leb, lt-leb, eq-eqb, ne-eqb}
+use borrow.Author.Tests.{leb-true, le-leb, lt-leb, ne-eqb}
 use Rattle.laws.specs.Bools.{if_then_else_}
 use Rattle.laws.proofs.Bools.{case-bool, and-right}
-use Rattle.rules.specs.declared.Outcome.{Outcome}
-use Rattle.rules.specs.declared.Outcome.the-variants
 use Rattle.rules.specs.Setup.{within}
-use Rattle.rules.specs.Calls.{outcomeOf}
 use Rattle.journal.specs.declared.Record.{Record}
 use Rattle.journal.specs.declared.Read.{Read}
 use Rattle.journal.specs.Numbers.{Number, number, fault, numberAt}
@@ -75,15 +72,9 @@ module _ (bytes : List ℕ) (start a : ℕ) where
         unfolding reportFields fieldOf
         report-outcome f = rw (c, i, t, f) refl
 
-        pub report-success : {o next : ℕ} → Is (within 0 1) g o next → o ≡ 0 → reportFields bytes start a ≡ event (report clock e ticket Outcome.Success) next
-        unfolding reportFields fieldOf outcomeOf if_then_else_
-        report-success f z = rw (c, i, t, f, z) refl
-
-        pub report-failure : {o next : ℕ} → Is (within 0 1) g o next → (o ≡ 0 → ⊥) → reportFields bytes start a ≡ event (report clock e ticket Outcome.Failure) next
-        unfolding reportFields fieldOf outcomeOf if_then_else_
-        report-failure {o} f z =
-            let one : o ≡ 1 = omega (arith, at-most 0 1 (in-range (within 0 1) (numberAt bytes g) f), z) in
-            rw (c, i, t, f, eq-eqb o 1 one) refl
+        pub report-whole : {o next : ℕ} → Is (within 0 1) g o next → reportFields bytes start a ≡ event (report clock e ticket o) next
+        unfolding reportFields fieldOf
+        report-whole f = rw (c, i, t, f) refl
 
   pub name-number : {k : ℕ} → Faults (within 0 31) a k → nameFields bytes start a ≡ closed (refused k start)
   unfolding nameFields fieldOf

@@ -174,35 +174,36 @@ fn read_report(journal: &[u8], start: usize, from: usize) -> Read
     if outcome.fault != 0 {
         return refused(outcome.fault, start);
     }
-    let next = outcome.next;
-    if outcome.value == 0 {
-        return reported(
-            clock.value,
-            entry.value,
-            ticket.value,
-            Outcome::Success,
-            next,
-        );
-    }
     reported(
         clock.value,
         entry.value,
         ticket.value,
-        Outcome::Failure,
-        next,
+        outcome.value,
+        outcome.next,
     )
 }
 
-fn reported(clock: u64, entry: u64, ticket: u64, outcome: Outcome, next: usize) -> Read
+fn reported(clock: u64, entry: u64, ticket: u64, outcome: u64, next: usize) -> Read
     ensures { λ r. ⌜ r ≡ answerOf (event (report clock entry ticket outcome) next) ⌝ }
 {
+    if outcome == 1 {
+        return Read::Whole {
+            what: Record::Report {
+                clock: clock,
+                entry: entry,
+                ticket: ticket,
+                outcome: Outcome::Failure,
+            },
+            next: next,
+        };
+    }
     Read::Whole {
         what: Record::Report {
-            clock,
-            entry,
-            ticket,
-            outcome,
+            clock: clock,
+            entry: entry,
+            ticket: ticket,
+            outcome: Outcome::Success,
         },
-        next,
+        next: next,
     }
 }
