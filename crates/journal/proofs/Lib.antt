@@ -1,3 +1,5 @@
 pub mod Extents
+pub mod Groups
 pub mod Names
 pub mod Edges
+pub mod WriteEdges

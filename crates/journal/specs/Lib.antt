@@ -3,3 +3,4 @@ pub mod Records
 pub mod Journals
 pub mod Replays
 pub mod Told
+pub mod Writes

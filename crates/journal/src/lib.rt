@@ -1,4 +1,4 @@
-// A journal of events (A1): what a record holds, and what stands at an offset.
+// A journal of events (A1): what a record holds, what stands at an offset, and what a writer answers (A8).
 use rules::Outcome;
 
 // A record: a kind, and its fields. Of a name its length stands here and its bytes in the journal; of a job how many
@@ -36,4 +36,10 @@ pub enum Read {
 pub struct Reading {
     pub answer: Read,
     pub destinations: [u64; 256],
+}
+
+// What the writer (A8) answers: how many bytes of the buffer are used now, or a refusal, 14 or 10.
+pub enum Written {
+    Used(usize),
+    Refused(u8),
 }

@@ -1,0 +1,5 @@
+pub mod ReadBack
+pub mod NumberBack
+pub mod WriteBack
+pub mod Calls
+pub mod RoundTrips
