@@ -1,10 +1,13 @@
-// Reads and replays the journals of its standard input, a line each, and writes each line with what came out of it. The lines:
+// Reads and replays the journals of its standard input, and writes records, a line each, and writes each line with what came out of it. The
+// lines:
 //
-//     read OFFSET B B ..      what stands at that offset of the journal of these bytes
-//     replay BUDGET B B ..    the replay of that journal, with each byte 10 shown as '|'
+//     read OFFSET B B ..               what stands at that offset of the journal of these bytes
+//     replay BUDGET B B ..             the replay of that journal, with each byte 10 shown as '|'
+//     write LENGTH USED KIND F F ..    the record written into a buffer of that length, all nines, and the buffer then
 //
 // Empty lines and lines that begin with '#' are written as they are.
 mod show;
+mod writes;
 
 ghost use Prim.Native.Nat.{_*_, _≤_};
 ghost use lib.ListN.{length};
@@ -16,10 +19,10 @@ use lines::answer;
 use lines::text;
 
 fn main() {
-    let mut cases_space = [0u8; 16384];
+    let mut cases_space = [0u8; 20480];
     let cases: &mut [u8] = &mut cases_space;
     // the most numbers that a line of so many bytes holds
-    let mut words_space = [0u64; 8192];
+    let mut words_space = [0u64; 10240];
     let words: &mut [u64] = &mut words_space;
     let mut journal_space = [0u8; 2048];
     let journal: &mut [u8] = &mut journal_space;
@@ -55,10 +58,19 @@ fn step(line: &[u8], words: &mut [u64], journal: &mut [u8], out: &mut [u8])
         io::write_all(STDOUT_FILENO, b"\n");
         return;
     }
-    let many = fill(&words[1..k], journal);
     io::write_all(STDOUT_FILENO, b" -> ");
-    let length = tell(&line[at..end], &journal[..many], words[0], out);
+    let length = told(&line[at..end], &words[..k], journal, out);
     answer::write(out, length);
+}
+
+// What a line of that name says of these numbers.
+fn told(name: &[u8], words: &[u64], space: &mut [u8], out: &mut [u8]) -> usize {
+    if same(name, b"write") {
+        return writes::put_write(out, words, space);
+    }
+    let from = text::at_most(1, words.len());
+    let many = fill(&words[from..], space);
+    tell(name, &space[..many], text::word(words, 0), out)
 }
 
 // What a line of that name asks of a journal.
@@ -70,7 +82,7 @@ fn tell(name: &[u8], journal: &[u8], x: u64, out: &mut [u8]) -> usize {
 }
 
 // Puts the words, each below 256, at the start of the bytes, as far as there is room, and answers how many there are.
-fn fill(words: &[u64], bytes: &mut [u8]) -> usize
+pub fn fill(words: &[u64], bytes: &mut [u8]) -> usize
     ensures { λ r. ⌜ r ≤ length (now (bytes .exit)) ⌝ }
 {
     let count = text::at_most(words.len() as u64, bytes.len());

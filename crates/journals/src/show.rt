@@ -77,7 +77,7 @@ fn put_outcome(out: &mut [u8], at: usize, outcome: Outcome) -> usize {
 }
 
 // Each byte as a number.
-fn put_bytes(out: &mut [u8], at: usize, bytes: &[u8]) -> usize {
+pub fn put_bytes(out: &mut [u8], at: usize, bytes: &[u8]) -> usize {
     let mut p = at;
     let mut i: usize = 0;
     while i < bytes.len() {

@@ -1,11 +1,11 @@
 -- Laws of writers: one after another, each lent the rest of the buffer.
-use Prim.Native.Nat.{ℕ, _+_, _-_, _≤_, _<_}
+use Prim.Native.Nat.{ℕ, suc, _+_, _-_, _≤_, _<_}
 use mathlib.Core.Path.{_≡_, refl, sym, ap, subst, _∙_}
 use mathlib.Core.List.{List, [], _∷_, _++_, append-assoc, append-nil}
 use native.Mathlib.Nat.{le-refl}
 use native.Mathlib.Omega.{arith}
 use lib.ListN.{length, take, drop, set, length-append, length-drop, drop-of-length-le}
-use lib.Seq.{take-at, drop-at, drop-drop, drop-append-add, take-all}
+use lib.Seq.{sets, sets-eq, take-at, drop-at, drop-drop, drop-append-add, take-all}
 use borrow.Rule.Slice.PartMut.{putMid, midOf}
 use Rattle.laws.specs.Wrote.{Wrote}
 use Rattle.laws.proofs.Front.{length-front, front-more}
@@ -95,3 +95,25 @@ pub record Copied (text e x : List ℕ) (i : ℕ) : Type 0 where
   pub wrote : Wrote (take i text) e x i
   pub below : i ≤ length text
   pub fits : length text ≤ length e
+
+-- Texts stored at a place: one behind the other, or copied by a writer that is lent the rest of the buffer.
+
+pub sets-append : (a b l : List ℕ) (i : ℕ) → sets l i (a ++ b) ≡ sets (sets l i a) (i + length a) b
+sets-append [] b l i = let e : i + 0 ≡ i = omega arith in rw e refl
+sets-append (x ∷ a) b l i = let e : i + suc (length a) ≡ suc i + length a = omega arith in rw e (sets-append a b (set l i x) (suc i))
+
+pub sets-copied :
+    (word e : List ℕ) (at : ℕ) (z : List ℕ)
+    → at + length word ≤ length e
+    → z ≡ take (length word) word ++ drop (length word) (midOf at (length e - at) e)
+    → putMid at (length e - at) e z ≡ sets e at word
+sets-copied word e at z h b =
+    ap (λ l. take at e ++ l) copied ∙ sym (append-assoc (take at e) word _) ∙ sym (sets-eq word e at h)
+  where
+    copied : z ++ drop (length e - at) (drop at e) ≡ word ++ drop (at + length word) e
+    copied =
+        let whole : midOf at (length e - at) e ≡ drop at e = take-all (length e - at) (drop at e) (rw length-drop (le-refl _)) in
+        ap (λ l. z ++ l) (drop-of-length-le (drop at e) {i = length e - at} (rw length-drop (le-refl _))) ∙ append-nil z ∙ b
+        ∙ ap (λ l. l ++ drop (length word) (midOf at (length e - at) e)) (take-all (length word) word (le-refl _))
+        ∙ ap (λ l. word ++ drop (length word) l) whole
+        ∙ ap (λ l. word ++ l) (drop-drop (length word) at e)

@@ -6,11 +6,12 @@ use native.Mathlib.Nat.{le-refl, pow-zero, pow-succ'}
 use native.Mathlib.Omega.{arith}
 use native.Mathlib.Numerals.{add-one}
 use native.Mathlib.Decide.{ℕ-discrete, decLt}
-use lib.ListN.{length, getD, set, take, drop, length-append, length-drop, take-append-drop, drop-of-length-le}
-use lib.Seq.{sets, length-sets, sets-eq, set-out, take-suc, take-all, drop-drop, length-take-le}
+use lib.ListN.{length, getD, set, take, drop, length-append, take-append-drop, drop-of-length-le}
+use lib.Seq.{sets, length-sets, set-out, take-suc, take-all, length-take-le}
 use borrow.Rule.Slice.PartMut.{putMid, midOf, mid-len}
 use borrow.Author.Tests.{lt-ltb, eq-eqb, ne-eqb}
 use Rattle.laws.specs.Bools.{if_then_else_}
+use Rattle.laws.proofs.Writing.{sets-append, sets-copied}
 use Rattle.io.specs.Digits.{digits, glyph, Fewest}
 use Rattle.rules.specs.Board.{decimal, numbered}
 use Rattle.writing.proofs.Decimals.{decimal-small, decimal-more}
@@ -19,10 +20,6 @@ use Rattle.lines.specs.Texts.{Put, numbers, shownByte}
 sets-out : (vs l : List ℕ) (i : ℕ) → length l ≤ i → sets l i vs ≡ l
 sets-out [] l i h = refl
 sets-out (a ∷ vs) l i h = ap (λ k. sets k (suc i) vs) (set-out l i a h) ∙ sets-out vs l (suc i) (omega arith)
-
-sets-append : (a b l : List ℕ) (i : ℕ) → sets l i (a ++ b) ≡ sets (sets l i a) (i + length a) b
-sets-append [] b l i = let e : i + 0 ≡ i = omega arith in rw e refl
-sets-append (x ∷ a) b l i = let e : i + suc (length a) ≡ suc i + length a = omega arith in rw e (sets-append a b (set l i x) (suc i))
 
 pub put-none : (e : List ℕ) (at : ℕ) → Put [] e at e at
 put-none e at = record { bytes = refl; next = omega arith }
@@ -85,19 +82,9 @@ module _ (word e : List ℕ) (at n : ℕ) (h : at ≤ length e) (room : n ≡ mi
       → Put word e at (putMid at (length e - at) e z) (at + r)
   put-copied z {r} c b =
       record {
-        bytes =
-            ap (λ l. take at e ++ l) copied ∙ sym (append-assoc (take at e) (take n word) _)
-            ∙ sym (sets-eq (take n word) e at (omega (arith, part-length, room))) ∙ sets-part;
+        bytes = sets-copied (take n word) e at z (omega (arith, part-length, room)) b ∙ sets-part;
         next = omega (arith, c, part-length, room);
       }
-    where
-      copied : z ++ drop (length e - at) (drop at e) ≡ take n word ++ drop (at + length (take n word)) e
-      copied =
-          let whole : midOf at (length e - at) e ≡ drop at e = take-all (length e - at) (drop at e) (rw length-drop (le-refl _)) in
-          ap (λ l. z ++ l) (drop-of-length-le (drop at e) {i = length e - at} (rw length-drop (le-refl _))) ∙ append-nil z ∙ b
-          ∙ ap (λ l. l ++ drop (length (take n word)) (midOf at (length e - at) e)) (take-all (length (take n word)) (take n word) (le-refl _))
-          ∙ ap (λ l. take n word ++ drop (length (take n word)) l) whole
-          ∙ ap (λ l. take n word ++ l) (drop-drop (length (take n word)) at e)
 
 -- Number after numbered of a list.
 

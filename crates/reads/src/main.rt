@@ -1,19 +1,27 @@
-// Reads the records of a journal many times, to be timed from outside: docs/PERFORMANCE.md. The argument says which records, `turns` or
-// `jobs`; with none, each is read a few times.
+// Reads, or writes, the records of a journal many times, to be timed from outside: docs/PERFORMANCE.md. The argument says which records,
+// `turns` or `jobs`, or `written-turns` or `written-jobs`; with none, each is done a few times.
 use check::same;
 use journal::Read;
+use journal::Written;
 use libc::STDOUT_FILENO;
 use reader::read_at;
+use writer::write_job;
+use writer::write_pick;
+use writer::write_report;
 
 fn main() {
     // a pick and a report, with numbers of one and of two groups; a job of four entries
     let turns = [2u8, 144, 78, 3, 144, 78, 5, 133, 1, 0];
     let jobs = [1u8, 144, 78, 3, 4, 24, 28, 25, 29];
+    let mut room = [0u8; 10];
+    let buffer: &mut [u8] = &mut room;
     let mut space = [0u8; 16];
     let n = os::arg(1, &mut space);
     if n == 0 {
         say(reads(&turns, 2));
         say(reads(&jobs, 1));
+        say(write_turns(buffer, 1));
+        say(write_jobs(buffer, 1));
         return;
     }
     if same(&space[..n], b"turns") {
@@ -21,6 +29,12 @@ fn main() {
     }
     if same(&space[..n], b"jobs") {
         say(reads(&jobs, 10_000_000));
+    }
+    if same(&space[..n], b"written-turns") {
+        say(write_turns(buffer, 5_000_000));
+    }
+    if same(&space[..n], b"written-jobs") {
+        say(write_jobs(buffer, 10_000_000));
     }
 }
 
@@ -56,5 +70,41 @@ fn next_of(a: Read) -> usize {
         Read::Whole { next, .. } => next,
         Read::End => 18446744073709551615,
         Read::Refused { .. } => 18446744073709551615,
+    }
+}
+
+// Writes a pick and a report, one behind the other, and again from the front. Answers how many pairs took ten bytes.
+fn write_turns(buffer: &mut [u8], rounds: u32) -> u32 {
+    let mut good: u32 = 0;
+    let mut left = rounds;
+    while 0 < left {
+        left -= 1;
+        let used = used_of(write_pick(buffer, 0, 10_000));
+        if used_of(write_report(buffer, used, 10_000, 5, 133, 0)) == 10 {
+            good = std::num::wrapping_add_u32(good, 1);
+        }
+    }
+    good
+}
+
+// Writes a job of four entries, again and again. Answers how often it took nine bytes.
+fn write_jobs(buffer: &mut [u8], rounds: u32) -> u32 {
+    let dests = [24u64, 28, 25, 29];
+    let mut good: u32 = 0;
+    let mut left = rounds;
+    while 0 < left {
+        left -= 1;
+        if used_of(write_job(buffer, 0, 10_000, 3, &dests)) == 9 {
+            good = std::num::wrapping_add_u32(good, 1);
+        }
+    }
+    good
+}
+
+// How many bytes are used; the greatest where the record was refused.
+fn used_of(a: Written) -> usize {
+    match a {
+        Written::Used(n) => n,
+        Written::Refused(_) => 18446744073709551615,
     }
 }

@@ -1,4 +1,4 @@
--- The journal that is lent is as long as it was filled. Assumes nothing.
+-- The numbers that are handed on are as many as were read. Assumes nothing.
 use mathlib.Core.Path.{sym}
 use native.Mathlib.Omega.{arith}
 use lib.Seq.{length-take-le}
@@ -30,44 +30,29 @@ same-length c = search needs
 returns : tie.Need-returns
 returns c = search needs
 
-sub-fill : tie.Need-sub-fill
-sub-fill c = search needs
-
-part-fill-start : tie.Need-part-fill-start
-part-fill-start c = search needs
-
-part-fill-end : tie.Need-part-fill-end
-part-fill-end c = search needs
-
-fill-requires : tie.Need-fill-requires
-fill-requires c κs = search needs
-
 slice-aggregate-write-all-2 : tie.Need-slice-aggregate-write-all-2
 slice-aggregate-write-all-2 c = search needs
 
 write-all-requires-3 : tie.Need-write-all-requires-3
 write-all-requires-3 c κs = search needs
 
-sub-tell : tie.Need-sub-tell
-sub-tell c = search needs
+sub-told : tie.Need-sub-told
+sub-told c = search needs
 
-part-tell-start : tie.Need-part-tell-start
-part-tell-start c = search needs
+part-told-start : tie.Need-part-told-start
+part-told-start c = search needs
 
-part-tell-end : tie.Need-part-tell-end
-part-tell-end c = search needs
+part-told-end : tie.Need-part-told-end
+part-told-end c = search needs
 
-slice-reshare-prefix-tell : tie.Need-slice-reshare-prefix-tell
-slice-reshare-prefix-tell c = search needs
+slice-reshare-prefix-told : tie.Need-slice-reshare-prefix-told
+slice-reshare-prefix-told c = search needs
 
-slice-aggregate-tell : tie.Need-slice-aggregate-tell
-slice-aggregate-tell c = sym (length-take-le _ _ (omega arith))
+slice-aggregate-told : tie.Need-slice-aggregate-told
+slice-aggregate-told c = sym (length-take-le _ _ (omega arith))
 
-slice-read-tell : tie.Need-slice-read-tell
-slice-read-tell c = search needs
-
-tell-requires : tie.Need-tell-requires
-tell-requires c κs = search needs
+told-requires : tie.Need-told-requires
+told-requires c κs = search needs
 
 write-requires : tie.Need-write-requires
 write-requires c κs = search needs
@@ -96,19 +81,14 @@ step-spec =
     write-all-requires-2
     same-length
     returns
-    sub-fill
-    part-fill-start
-    part-fill-end
-    fill-requires
     slice-aggregate-write-all-2
     write-all-requires-3
-    sub-tell
-    part-tell-start
-    part-tell-end
-    slice-reshare-prefix-tell
-    slice-aggregate-tell
-    slice-read-tell
-    tell-requires
+    sub-told
+    part-told-start
+    part-told-end
+    slice-reshare-prefix-told
+    slice-aggregate-told
+    told-requires
     write-requires
     same-length-2
     same-length-3

@@ -1,0 +1,4 @@
+pub mod NumberLaws
+pub mod StoredLaws
+pub mod PartLaws
+pub mod RecordLaws
