@@ -1,0 +1,4 @@
+pub mod FrontLaws
+pub mod LineLaws
+pub mod RoomLaws
+pub mod DoneLaws
