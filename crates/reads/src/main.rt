@@ -13,33 +13,35 @@ fn main() {
     // a pick and a report, with numbers of one and of two groups; a job of four entries
     let turns = [2u8, 144, 78, 3, 144, 78, 5, 133, 1, 0];
     let jobs = [1u8, 144, 78, 3, 4, 24, 28, 25, 29];
-    let mut room = [0u8; 10];
+    let mut room = [0u8; 4096];
     let buffer: &mut [u8] = &mut room;
     let mut space = [0u8; 16];
     let n = os::arg(1, &mut space);
     if n == 0 {
-        say(reads(&turns, 2));
-        say(reads(&jobs, 1));
-        say(write_turns(buffer, 1));
-        say(write_jobs(buffer, 1));
+        say(reads(&turns, 2) as u64);
+        say(reads(&jobs, 1) as u64);
+        say(write_turns(buffer, 1) as u64);
+        say(write_jobs(buffer, 1) as u64);
         return;
     }
     if same(&space[..n], b"turns") {
-        say(reads(&turns, 10_000_000));
+        say(reads(&turns, 10_000_000) as u64);
     }
     if same(&space[..n], b"jobs") {
-        say(reads(&jobs, 10_000_000));
+        say(reads(&jobs, 10_000_000) as u64);
     }
     if same(&space[..n], b"written-turns") {
-        say(write_turns(buffer, 5_000_000));
+        say(write_turns(buffer, 5_000_000) as u64);
     }
     if same(&space[..n], b"written-jobs") {
-        say(write_jobs(buffer, 10_000_000));
+        say(write_jobs(buffer, 10_000_000) as u64);
     }
+    // what was written is looked at
+    io::write_all(STDOUT_FILENO, buffer);
 }
 
-fn say(n: u32) {
-    io::print_decimal(STDOUT_FILENO, n as u64);
+fn say(n: u64) {
+    io::print_decimal(STDOUT_FILENO, n);
     io::write_all(STDOUT_FILENO, b"\n");
 }
 
@@ -73,38 +75,40 @@ fn next_of(a: Read) -> usize {
     }
 }
 
-// Writes a pick and a report, one behind the other, and again from the front. Answers how many pairs took ten bytes.
-fn write_turns(buffer: &mut [u8], rounds: u32) -> u32 {
-    let mut good: u32 = 0;
+// Writes a pick and a report after the other, and again from the front where one does not fit. Answers where the last ended.
+fn write_turns(buffer: &mut [u8], rounds: u32) -> usize {
+    let mut used: usize = 0;
     let mut left = rounds;
     while 0 < left {
         left -= 1;
-        let used = used_of(write_pick(buffer, 0, 10_000));
-        if used_of(write_report(buffer, used, 10_000, 5, 133, 0)) == 10 {
-            good = std::num::wrapping_add_u32(good, 1);
-        }
+        let clock = clock_of(left);
+        used = used_of(write_pick(buffer, used, clock));
+        used = used_of(write_report(buffer, used, clock, 5, 133, 0));
     }
-    good
+    used
 }
 
-// Writes a job of four entries, again and again. Answers how often it took nine bytes.
-fn write_jobs(buffer: &mut [u8], rounds: u32) -> u32 {
+// Writes a job of four entries after the other, and again from the front where one does not fit. Answers where the last ended.
+fn write_jobs(buffer: &mut [u8], rounds: u32) -> usize {
     let dests = [24u64, 28, 25, 29];
-    let mut good: u32 = 0;
+    let mut used: usize = 0;
     let mut left = rounds;
     while 0 < left {
         left -= 1;
-        if used_of(write_job(buffer, 0, 10_000, 3, &dests)) == 9 {
-            good = std::num::wrapping_add_u32(good, 1);
-        }
+        used = used_of(write_job(buffer, used, clock_of(left), 3, &dests));
     }
-    good
+    used
 }
 
-// How many bytes are used; the greatest where the record was refused.
+// A clock of two groups, another one each round.
+fn clock_of(round: u32) -> u64 {
+    8192 + (round % 8192) as u64
+}
+
+// How many bytes are used; none where the record was refused.
 fn used_of(a: Written) -> usize {
     match a {
         Written::Used(n) => n,
-        Written::Refused(_) => 18446744073709551615,
+        Written::Refused(_) => 0,
     }
 }

@@ -6,16 +6,19 @@ use Rattle.reads.proofs.write_jobs.Statement.{statement}
 use Rattle.reads.proofs.write_jobs.Tie as tie
 
 abbrev Inv-loop : tie.InvT-loop
-Inv-loop buffer₀ rounds dests good₀ left₀ buffer good left = length buffer ≡ length buffer₀
+Inv-loop buffer₀ rounds dests used₀ left₀ buffer used left = length buffer ≡ length buffer₀
 
 abbrev μ-loop : tie.MeasureT-loop
-μ-loop buffer₀ rounds dests good₀ left₀ buffer good left = left
+μ-loop buffer₀ rounds dests used₀ left₀ buffer used left = left
 
 loop-holds : tie.Need-loop-holds Inv-loop μ-loop
 loop-holds c = search needs
 
 sub-left : tie.Need-sub-left Inv-loop μ-loop
 sub-left c = search needs
+
+clock-of-requires : tie.Need-clock-of-requires Inv-loop μ-loop
+clock-of-requires c κs = search needs
 
 slice-aggregate-write-job : tie.Need-slice-aggregate-write-job Inv-loop μ-loop
 slice-aggregate-write-job c = search needs
@@ -26,20 +29,11 @@ write-job-requires c κs = search needs
 used-of-requires : tie.Need-used-of-requires Inv-loop μ-loop
 used-of-requires c κs = search needs
 
-wrapping-add-u32-requires : tie.Need-wrapping-add-u32-requires Inv-loop μ-loop
-wrapping-add-u32-requires c κs = search needs
-
 loop-less : tie.Need-loop-less Inv-loop μ-loop
 loop-less c = search needs
 
 loop-again : tie.Need-loop-again Inv-loop μ-loop
 loop-again c = search needs
-
-loop-less-2 : tie.Need-loop-less-2 Inv-loop μ-loop
-loop-less-2 c = search needs
-
-loop-again-2 : tie.Need-loop-again-2 Inv-loop μ-loop
-loop-again-2 c = search needs
 
 same-length : tie.Need-same-length Inv-loop μ-loop
 same-length c = search needs
@@ -55,13 +49,11 @@ write-jobs-spec =
     μ-loop
     loop-holds
     sub-left
+    clock-of-requires
     slice-aggregate-write-job
     write-job-requires
     used-of-requires
-    wrapping-add-u32-requires
     loop-less
     loop-again
-    loop-less-2
-    loop-again-2
     same-length
     returns)

@@ -6,16 +6,19 @@ use Rattle.reads.proofs.write_turns.Statement.{statement}
 use Rattle.reads.proofs.write_turns.Tie as tie
 
 abbrev Inv-loop : tie.InvT-loop
-Inv-loop buffer₀ rounds good₀ left₀ buffer good left = length buffer ≡ length buffer₀
+Inv-loop buffer₀ rounds used₀ left₀ buffer used left = length buffer ≡ length buffer₀
 
 abbrev μ-loop : tie.MeasureT-loop
-μ-loop buffer₀ rounds good₀ left₀ buffer good left = left
+μ-loop buffer₀ rounds used₀ left₀ buffer used left = left
 
 loop-holds : tie.Need-loop-holds Inv-loop μ-loop
 loop-holds c = search needs
 
 sub-left : tie.Need-sub-left Inv-loop μ-loop
 sub-left c = search needs
+
+clock-of-requires : tie.Need-clock-of-requires Inv-loop μ-loop
+clock-of-requires c κs = search needs
 
 write-pick-requires : tie.Need-write-pick-requires Inv-loop μ-loop
 write-pick-requires c κs = search needs
@@ -29,20 +32,11 @@ write-report-requires c κs = search needs
 used-of-requires-2 : tie.Need-used-of-requires-2 Inv-loop μ-loop
 used-of-requires-2 c κs = search needs
 
-wrapping-add-u32-requires : tie.Need-wrapping-add-u32-requires Inv-loop μ-loop
-wrapping-add-u32-requires c κs = search needs
-
 loop-less : tie.Need-loop-less Inv-loop μ-loop
 loop-less c = search needs
 
 loop-again : tie.Need-loop-again Inv-loop μ-loop
 loop-again c = search needs
-
-loop-less-2 : tie.Need-loop-less-2 Inv-loop μ-loop
-loop-less-2 c = search needs
-
-loop-again-2 : tie.Need-loop-again-2 Inv-loop μ-loop
-loop-again-2 c = search needs
 
 same-length : tie.Need-same-length Inv-loop μ-loop
 same-length c = search needs
@@ -58,14 +52,12 @@ write-turns-spec =
     μ-loop
     loop-holds
     sub-left
+    clock-of-requires
     write-pick-requires
     used-of-requires
     write-report-requires
     used-of-requires-2
-    wrapping-add-u32-requires
     loop-less
     loop-again
-    loop-less-2
-    loop-again-2
     same-length
     returns)
