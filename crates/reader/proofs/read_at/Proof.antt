@@ -1,4 +1,4 @@
--- The kind is read, then its fields. Assumes nothing.
+-- The kind is read, then its fields; k is the place behind the test of the kind. Assumes nothing.
 use mathlib.Core.Path.{sym, _∙_, ap}
 use borrow.Author.Needs.{needs}
 use Rattle.journal.specs.Told.{readingOf}
@@ -39,7 +39,11 @@ alone-requires-3 : tie.Need-alone-requires-3
 alone-requires-3 c κs = search needs
 
 returns-4 : tie.Need-returns-4
-returns-4 c = told-alone _ (name-alone _ _ _) (c .before .read-name .ensures) (c .alone3 .ensures) ∙ sym (ap readingOf (reads-name _ _ (c .before .before .before .before .before .before .before .before .before .if1 .left) (is-read _ _ _ (c .before .before .before .before .before .before .before .before .ranged .ensures) (c .before .before .before .before .before .before .if2 .left)) (c .before .before .if4 .taken)))
+returns-4 c =
+    let k = c .before .before .before .before .before .before in
+    told-alone _ (name-alone _ _ _) (c .before .read-name .ensures) (c .alone3 .ensures)
+    ∙ sym (ap readingOf (reads-name _ _ (k .before .before .before .if1 .left)
+    (is-read _ _ _ (k .before .before .ranged .ensures) (k .if2 .left)) (c .before .before .if4 .taken)))
 
 read-pick-requires : tie.Need-read-pick-requires
 read-pick-requires c κs = search needs
@@ -48,7 +52,11 @@ alone-requires-4 : tie.Need-alone-requires-4
 alone-requires-4 c κs = search needs
 
 returns-5 : tie.Need-returns-5
-returns-5 c = told-alone _ (pick-alone _ _ _) (c .before .read-pick .ensures) (c .alone4 .ensures) ∙ sym (ap readingOf (reads-pick _ _ (c .before .before .before .before .before .before .before .before .before .before .before .if1 .left) (is-read _ _ _ (c .before .before .before .before .before .before .before .before .before .before .ranged .ensures) (c .before .before .before .before .before .before .before .before .if2 .left)) (c .before .before .if5 .taken)))
+returns-5 c =
+    let k = c .before .before .before .before .before .before .before .before in
+    told-alone _ (pick-alone _ _ _) (c .before .read-pick .ensures) (c .alone4 .ensures)
+    ∙ sym (ap readingOf (reads-pick _ _ (k .before .before .before .if1 .left)
+    (is-read _ _ _ (k .before .before .ranged .ensures) (k .if2 .left)) (c .before .before .if5 .taken)))
 
 read-report-requires : tie.Need-read-report-requires
 read-report-requires c κs = search needs
@@ -57,7 +65,12 @@ alone-requires-5 : tie.Need-alone-requires-5
 alone-requires-5 c κs = search needs
 
 returns-6 : tie.Need-returns-6
-returns-6 c = told-alone _ (report-alone _ _ _) (c .before .read-report .ensures) (c .alone5 .ensures) ∙ sym (ap readingOf (reads-report _ _ (c .before .before .before .before .before .before .before .before .before .before .before .if1 .left) (is-read _ _ _ (c .before .before .before .before .before .before .before .before .before .before .ranged .ensures) (c .before .before .before .before .before .before .before .before .if2 .left)) (c .before .before .before .before .if4 .left) (c .before .before .before .before .before .before .if3 .left) (c .before .before .if5 .left)))
+returns-6 c =
+    let k = c .before .before .before .before .before .before .before .before in
+    told-alone _ (report-alone _ _ _) (c .before .read-report .ensures) (c .alone5 .ensures)
+    ∙ sym (ap readingOf (reads-report _ _ (k .before .before .before .if1 .left)
+    (is-read _ _ _ (k .before .before .ranged .ensures) (k .if2 .left)) (c .before .before .before .before .if4 .left)
+    (c .before .before .before .before .before .before .if3 .left) (c .before .before .if5 .left)))
 
 pub read-at-spec : {M : Type 1} → statement M
 read-at-spec =

@@ -1,4 +1,4 @@
--- Field by field, then a destination a turn. Assumes nothing.
+-- Field by field, then a destination a turn; k and t are the places behind the test of the clock and of the transport. Assumes nothing.
 use Prim.Native.Nat.{_-_}
 use mathlib.Core.Path.{_∙_}
 use native.Mathlib.Omega.{arith}
@@ -39,7 +39,10 @@ alone-requires-2 : tie.Need-alone-requires-2 Inv-loop μ-loop
 alone-requires-2 c κs = search needs
 
 returns-2 : tie.Need-returns-2 Inv-loop μ-loop
-returns-2 c = refused-told (job-transport _ _ _ (is-read _ _ _ (c .before .before .before .before .before .before .before .number .ensures) (c .before .before .before .before .before .if1 .left)) (is-faulty _ _ _ (c .before .before .before .before .number2 .ensures) (c .before .before .if2 .taken))) (c .before .refused2 .ensures) (c .alone2 .ensures)
+returns-2 c =
+    let k = c .before .before .before .before .before in
+    refused-told (job-transport _ _ _ (is-read _ _ _ (k .before .before .number .ensures) (k .if1 .left))
+    (is-faulty _ _ _ (c .before .before .before .before .number2 .ensures) (c .before .before .if2 .taken))) (c .before .refused2 .ensures) (c .alone2 .ensures)
 
 ranged-requires : tie.Need-ranged-requires Inv-loop μ-loop
 ranged-requires c κs = search needs
@@ -51,10 +54,19 @@ alone-requires-3 : tie.Need-alone-requires-3 Inv-loop μ-loop
 alone-requires-3 c κs = search needs
 
 returns-3 : tie.Need-returns-3 Inv-loop μ-loop
-returns-3 c = refused-told (job-count _ _ _ (is-read _ _ _ (c .before .before .before .before .before .before .before .before .before .before .number .ensures) (c .before .before .before .before .before .before .before .before .if1 .left)) (is-read _ _ _ (c .before .before .before .before .before .before .before .number2 .ensures) (c .before .before .before .before .before .if2 .left)) (is-faulty _ _ _ (c .before .before .before .before .ranged .ensures) (c .before .before .if3 .taken))) (c .before .refused3 .ensures) (c .alone3 .ensures)
+returns-3 c =
+    let t = c .before .before .before .before .before in
+    let k = t .before .before .before in
+    refused-told (job-count _ _ _ (is-read _ _ _ (k .before .before .number .ensures) (k .if1 .left)) (is-read _ _ _ (t .before .before .number2 .ensures) (t .if2 .left))
+    (is-faulty _ _ _ (c .before .before .before .before .ranged .ensures) (c .before .before .if3 .taken))) (c .before .refused3 .ensures) (c .alone3 .ensures)
 
 loop-holds : tie.Need-loop-holds Inv-loop μ-loop
-loop-holds c = none-listed _ _ (at-most 1 256 (in-range (within 1 256) _ (is-read _ _ _ (c .before .before .ranged .ensures) (c .if3 .left)))) (job-listed _ _ _ (is-read _ _ _ (c .before .before .before .before .before .before .before .before .number .ensures) (c .before .before .before .before .before .before .if1 .left)) (is-read _ _ _ (c .before .before .before .before .before .number2 .ensures) (c .before .before .before .if2 .left)) (is-read _ _ _ (c .before .before .ranged .ensures) (c .if3 .left)))
+loop-holds c =
+    let t = c .before .before .before in
+    let k = t .before .before .before in
+    none-listed _ _ (at-most 1 256 (in-range (within 1 256) _ (is-read _ _ _ (c .before .before .ranged .ensures) (c .if3 .left)))) (job-listed _ _ _
+    (is-read _ _ _ (k .before .before .number .ensures) (k .if1 .left)) (is-read _ _ _ (t .before .before .number2 .ensures) (t .if2 .left))
+    (is-read _ _ _ (c .before .before .ranged .ensures) (c .if3 .left)))
 
 number-requires-3 : tie.Need-number-requires-3 Inv-loop μ-loop
 number-requires-3 c κs = search needs
@@ -66,7 +78,10 @@ alone-requires-4 : tie.Need-alone-requires-4 Inv-loop μ-loop
 alone-requires-4 c κs = search needs
 
 returns-4 : tie.Need-returns-4 Inv-loop μ-loop
-returns-4 c = refused-told (c .before .before .before .before .before .before .loop .inv .ahead ∙ next-faulty _ _ _ _ _ _ _ (omega (arith, c .before .before .before .before .before .loop-test .taken)) (is-faulty _ _ _ (c .before .before .before .before .number3 .ensures) (c .before .before .if4 .taken))) (c .before .refused4 .ensures) (c .alone4 .ensures)
+returns-4 c =
+    let n = c .before .before .before .before in
+    refused-told (n .before .before .loop .inv .ahead ∙ next-faulty _ _ _ _ _ _ _ (omega (arith, n .before .loop-test .taken))
+    (is-faulty _ _ _ (n .number3 .ensures) (c .before .before .if4 .taken))) (c .before .refused4 .ensures) (c .alone4 .ensures)
 
 mul-list : tie.Need-mul-list Inv-loop μ-loop
 mul-list c = omega (arith, c .before .before .before .before .loop .inv .room, c .before .before .before .loop-test .taken)

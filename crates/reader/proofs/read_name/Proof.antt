@@ -1,4 +1,4 @@
--- Field by field, then the name's bytes. Assumes nothing.
+-- Field by field, then the name's bytes; d and s are the places behind the test of the number and of the length. Assumes nothing.
 use mathlib.Core.Path.{sym, _∙_, ap}
 use native.Mathlib.Omega.{arith}
 use borrow.Author.Needs.{needs}
@@ -35,13 +35,30 @@ refused-requires-3 : tie.Need-refused-requires-3
 refused-requires-3 c κs = search needs
 
 returns-3 : tie.Need-returns-3
-returns-3 c = c .refused3 .ensures ∙ sym (ap answerOf (name-cut _ _ _ (is-read _ _ _ (c .before .before .before .before .before .before .before .ranged .ensures) (c .before .before .before .before .before .if1 .left)) (is-read _ _ _ (c .before .before .before .before .ranged2 .ensures) (c .before .before .if2 .left)) (omega (arith, number-ends _ (within 1 63) _ (is-read _ _ _ (c .before .before .before .before .ranged2 .ensures) (c .before .before .if2 .left)) .1))))
+returns-3 c =
+    let s = c .before .before in
+    let d = s .before .before .before in
+    c .refused3 .ensures
+    ∙ sym (ap answerOf (name-cut _ _ _ (is-read _ _ _ (d .before .before .ranged .ensures) (d .if1 .left))
+    (is-read _ _ _ (s .before .before .ranged2 .ensures) (s .if2 .left)) (omega (
+      arith,
+      number-ends _ (within 1 63) _
+          (is-read _ _ _ (s .before .before .ranged2 .ensures) (s .if2 .left)) .1,
+    ))))
 
 add-t10 : tie.Need-add-t10
 add-t10 c = search needs
 
 returns-4 : tie.Need-returns-4
-returns-4 c = name-whole _ _ _ (is-read _ _ _ (c .before .before .before .before .before .before .ranged .ensures) (c .before .before .before .before .if1 .left)) (is-read _ _ _ (c .before .before .before .ranged2 .ensures) (c .before .if2 .left)) (omega (arith, number-ends _ (within 1 63) _ (is-read _ _ _ (c .before .before .before .ranged2 .ensures) (c .before .if2 .left)) .1))
+returns-4 c =
+    let s = c .before in
+    let d = s .before .before .before in
+    name-whole _ _ _ (is-read _ _ _ (d .before .before .ranged .ensures) (d .if1 .left))
+    (is-read _ _ _ (s .before .before .ranged2 .ensures) (s .if2 .left)) (omega (
+      arith,
+      number-ends _ (within 1 63) _
+          (is-read _ _ _ (s .before .before .ranged2 .ensures) (s .if2 .left)) .1,
+    ))
 
 pub read-name-spec : {M : Type 1} → statement M
 read-name-spec =
