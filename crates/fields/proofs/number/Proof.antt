@@ -1,4 +1,4 @@
--- Each group is a turn; the first is apart. Assumes nothing.
+-- Each group is a turn; the first is apart. b is the place where a group is read. Assumes nothing.
 use Prim.Native.Nat.{_-_}
 use native.Mathlib.Omega.{arith}
 use borrow.Author.Needs.{needs}
@@ -56,19 +56,34 @@ faulty-requires-3 : tie.Need-faulty-requires-3 Inv-loop μ-loop
 faulty-requires-3 c κs = search needs
 
 returns-4 : tie.Need-returns-4 Inv-loop μ-loop
-returns-4 c = told-any (last-zero _ _ (c .before .before .before .before .before .before .before .loop .inv) (c .before .before .before .before .before .before .loop-test .taken) (c .before .before .before .before .before .if3 .left) (c .before .before .before .wide2 .ensures .0) (c .before .before .if4 .taken) (c .before .if5 .taken)) (c .faulty3 .ensures)
+returns-4 c =
+    let b = c .before .before .before in
+    told-any (last-zero _ _ (b .before .before .before .before .loop .inv) (b .before .before .before .loop-test .taken) (b .before .before .if3 .left) (b .wide2 .ensures .0)
+    (c .before .before .if4 .taken) (c .before .if5 .taken)) (c .faulty3 .ensures)
 
 mul-x : tie.Need-mul-x Inv-loop μ-loop
-mul-x c = omega (arith, part-small _ _ (c .before .before .before .before .before .before .loop .inv) (c .before .before .before .before .before .loop-test .taken) (c .before .before .wide2 .result) (c .before .before .wide2 .ensures .1))
+mul-x c =
+    let b = c .before .before in
+    omega (arith, part-small _ _ (b .before .before .before .before .loop .inv) (b .before .before .before .loop-test .taken) (b .wide2 .result) (b .wide2 .ensures .1))
 
 add-x : tie.Need-add-x Inv-loop μ-loop
-add-x c = omega (arith, sum-small _ _ (c .before .before .before .before .before .before .loop .inv) (c .before .before .before .before .before .loop-test .taken), part-small _ _ (c .before .before .before .before .before .before .loop .inv) (c .before .before .before .before .before .loop-test .taken) (c .before .before .wide2 .result) (c .before .before .wide2 .ensures .1))
+add-x c =
+    let b = c .before .before in
+    omega (
+      arith,
+      sum-small _ _ (b .before .before .before .before .loop .inv) (b .before .before .before .loop-test .taken),
+      part-small _ _
+          (b .before .before .before .before .loop .inv) (b .before .before .before .loop-test .taken) (b .wide2 .result) (b .wide2 .ensures .1),
+    )
 
 faulty-requires-4 : tie.Need-faulty-requires-4 Inv-loop μ-loop
 faulty-requires-4 c κs = search needs
 
 returns-5 : tie.Need-returns-5 Inv-loop μ-loop
-returns-5 c = told-any (last-large _ _ (c .before .before .before .before .before .before .before .before .loop .inv) (c .before .before .before .before .before .before .before .loop-test .taken) (c .before .before .before .before .before .before .if3 .left) (c .before .before .before .before .wide2 .ensures .0) (c .before .before .before .if4 .taken) (c .before .before .if5 .left) (c .before .if6 .taken)) (c .faulty4 .ensures)
+returns-5 c =
+    let b = c .before .before .before .before in
+    told-any (last-large _ _ (b .before .before .before .before .loop .inv) (b .before .before .before .loop-test .taken) (b .before .before .if3 .left) (b .wide2 .ensures .0)
+    (c .before .before .before .if4 .taken) (c .before .before .if5 .left) (c .before .if6 .taken)) (c .faulty4 .ensures)
 
 add-read-2 : tie.Need-add-read-2 Inv-loop μ-loop
 add-read-2 c = search needs
@@ -77,13 +92,29 @@ read-requires-2 : tie.Need-read-requires-2 Inv-loop μ-loop
 read-requires-2 c κs = search needs
 
 returns-6 : tie.Need-returns-6 Inv-loop μ-loop
-returns-6 c = told-any (last-is _ _ (c .before .before .before .before .before .before .before .before .loop .inv) (c .before .before .before .before .before .before .before .loop-test .taken) (c .before .before .before .before .before .before .if3 .left) (c .before .before .before .before .wide2 .ensures .0) (c .before .before .before .if4 .taken) (c .before .before .if5 .left) (c .before .if6 .left)) (c .read2 .ensures)
+returns-6 c =
+    let b = c .before .before .before .before in
+    told-any (last-is _ _ (b .before .before .before .before .loop .inv) (b .before .before .before .loop-test .taken) (b .before .before .if3 .left) (b .wide2 .ensures .0)
+    (c .before .before .before .if4 .taken) (c .before .before .if5 .left) (c .before .if6 .left)) (c .read2 .ensures)
 
 mul-sum : tie.Need-mul-sum Inv-loop μ-loop
-mul-sum c = omega (arith, part-small _ _ (c .before .before .before .before .before .loop .inv) (c .before .before .before .before .loop-test .taken) (c .before .wide2 .result - 128) (omega (arith, c .before .wide2 .ensures .1)))
+mul-sum c =
+    let b = c .before in
+    omega (
+      arith,
+      part-small _ _ (b .before .before .before .before .loop .inv) (b .before .before .before .loop-test .taken) (b .wide2 .result - 128) (omega
+          (arith, b .wide2 .ensures .1)),
+    )
 
 add-sum : tie.Need-add-sum Inv-loop μ-loop
-add-sum c = omega (arith, sum-small _ _ (c .before .before .before .before .before .loop .inv) (c .before .before .before .before .loop-test .taken), part-small _ _ (c .before .before .before .before .before .loop .inv) (c .before .before .before .before .loop-test .taken) (c .before .wide2 .result - 128) (omega (arith, c .before .wide2 .ensures .1)))
+add-sum c =
+    let b = c .before in
+    omega (
+      arith,
+      sum-small _ _ (b .before .before .before .before .loop .inv) (b .before .before .before .loop-test .taken),
+      part-small _ _
+          (b .before .before .before .before .loop .inv) (b .before .before .before .loop-test .taken) (b .wide2 .result - 128) (omega (arith, b .wide2 .ensures .1)),
+    )
 
 mul-place : tie.Need-mul-place Inv-loop μ-loop
 mul-place c = omega (arith, place-small _ _ (c .before .before .before .before .before .loop .inv) (c .before .before .before .before .loop-test .taken))
