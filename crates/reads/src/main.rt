@@ -17,11 +17,19 @@ fn main() {
     let buffer: &mut [u8] = &mut room;
     let mut space = [0u8; 16];
     let n = os::arg(1, &mut space);
+    // what is written, by numbers of one and of two groups too, hangs on the argument, so that none of it is known before
+    let seed = 8192 + (n % 16) as u32;
+    let entries = [
+        wide(space[0]),
+        wide(space[1]),
+        wide(space[2]),
+        wide(space[3]),
+    ];
     if n == 0 {
         say(reads(&turns, 2) as u64);
         say(reads(&jobs, 1) as u64);
-        say(write_turns(buffer, 1) as u64);
-        say(write_jobs(buffer, 1) as u64);
+        say(write_turns(buffer, 1, seed, entries[0]) as u64);
+        say(write_jobs(buffer, 1, seed, &entries) as u64);
         return;
     }
     if same(&space[..n], b"turns") {
@@ -31,10 +39,10 @@ fn main() {
         say(reads(&jobs, 10_000_000) as u64);
     }
     if same(&space[..n], b"written-turns") {
-        say(write_turns(buffer, 5_000_000) as u64);
+        say(write_turns(buffer, 5_000_000, seed, entries[0]) as u64);
     }
     if same(&space[..n], b"written-jobs") {
-        say(write_jobs(buffer, 10_000_000) as u64);
+        say(write_jobs(buffer, 10_000_000, seed, &entries) as u64);
     }
     // what was written is looked at
     io::write_all(STDOUT_FILENO, buffer);
@@ -76,33 +84,36 @@ fn next_of(a: Read) -> usize {
 }
 
 // Writes a pick and a report after the other, and again from the front where one does not fit. Answers where the last ended.
-fn write_turns(buffer: &mut [u8], rounds: u32) -> usize {
+fn write_turns(buffer: &mut [u8], rounds: u32, seed: u32, entry: u64) -> usize {
     let mut used: usize = 0;
     let mut left = rounds;
     while 0 < left {
         left -= 1;
-        let clock = clock_of(left);
+        let clock = clock_of(left, seed);
         used = used_of(write_pick(buffer, used, clock));
-        used = used_of(write_report(buffer, used, clock, 5, 133, 0));
+        used = used_of(write_report(buffer, used, clock, entry, clock, 0));
     }
     used
 }
 
-// Writes a job of four entries after the other, and again from the front where one does not fit. Answers where the last ended.
-fn write_jobs(buffer: &mut [u8], rounds: u32) -> usize {
-    let dests = [24u64, 28, 25, 29];
+// Writes a job of these entries after the other, and again from the front where one does not fit. Answers where the last ended.
+fn write_jobs(buffer: &mut [u8], rounds: u32, seed: u32, entries: &[u64]) -> usize {
     let mut used: usize = 0;
     let mut left = rounds;
     while 0 < left {
         left -= 1;
-        used = used_of(write_job(buffer, used, clock_of(left), 3, &dests));
+        used = used_of(write_job(buffer, used, clock_of(left, seed), 3, entries));
     }
     used
 }
 
-// A clock of two groups, another one each round.
-fn clock_of(round: u32) -> u64 {
-    8192 + (round % 8192) as u64
+fn wide(b: u8) -> u64 {
+    b as u64
+}
+
+// Another clock each round, in a row of 4,096 from the seed on.
+fn clock_of(round: u32, seed: u32) -> u64 {
+    std::num::wrapping_add_u32(seed, round % 4096) as u64
 }
 
 // How many bytes are used; none where the record was refused.

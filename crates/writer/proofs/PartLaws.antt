@@ -1,83 +1,107 @@
--- The parts of a record: refused, or stored one behind the other.
-use Prim.Native.Nat.{ℕ, _+_, _≤_}
+-- An event is refused, or stored part by part: its numbers one behind the other, and then its tail.
+use Prim.Native.Nat.{ℕ, _+_, _≤_, _<_}
 use mathlib.Core.Path.{_≡_, refl, sym, _∙_, ap, subst}
 use mathlib.Core.Bool.{true, false}
-use mathlib.Core.List.{List, _++_}
+use mathlib.Core.List.{List, [], _∷_, _++_, append-assoc}
 use native.Mathlib.Omega.{arith}
 use lib.ListN.{length, length-append}
 use lib.Seq.{sets-eq}
 use lib.Dec.{leb}
-use borrow.Author.Tests.{leb-true, le-leb}
+use borrow.Author.Tests.{leb-true, le-leb, ltb-true}
 use Rattle.laws.specs.Sequence.{everyIn}
-use Rattle.laws.proofs.Bools.{if-true, if-false, and-left-false, and-right-false}
-use Rattle.laws.proofs.Sequence.{every-append, every-append-both}
+use Rattle.laws.proofs.Bools.{if-true, if-false, and-left, and-right}
 use Rattle.journal.specs.declared.Written.{Written}
 use Rattle.journal.specs.declared.Written.the-variants
 use Rattle.journal.specs.Numbers.{small}
-use Rattle.journal.specs.Writes.{numbersBytes, put, Writing, refusing, fitted}
-use Rattle.writer.specs.Parts.{partsWriting, Stored}
-use Rattle.journal.proofs.Groups.{numbers-append}
+use Rattle.journal.specs.Records.{Event}
+use Rattle.journal.specs.Writes.{numberBytes, numbersBytes, bytesOf, writable, put, Writing, refusing, fitted, writingOf}
+use Rattle.writer.specs.Parts.{Stored}
 use Rattle.writer.proofs.StoredLaws.{stored-length, stored-as, stored-more}
 
 -- an answer, and the buffer that is left
 abbrev pub Writes : Written → List ℕ → Writing → Type 0
 Writes r z w = (r ≡ w .answer) × (z ≡ w .buffer)
 
-pub writes-as : {v w : Writing} {r : Written} {z : List ℕ} → v ≡ w → Writes r z v → Writes r z w
+writes-as : {v w : Writing} {r : Written} {z : List ℕ} → v ≡ w → Writes r z v → Writes r z w
 writes-as {r} {z} h o = subst (λ w. Writes r z w) h o
 
 pub refuses : (k : ℕ) (b : List ℕ) {w : Writing} → w ≡ refusing k b → Writes (Written.Refused k) b w
 unfolding refusing
 refuses k b h = writes-as (sym h) (refl, refl)
 
--- all numbers are small, and there is room
-pub record Room (head list word b : List ℕ) (used : ℕ) : Type 0 where
-  pub head-small : everyIn small head ≡ true
-  pub list-small : everyIn small list ≡ true
-  pub fits : used + (length (numbersBytes head) + length (numbersBytes list) + length word) ≤ length b
+-- an event that may be written, in its parts, of so many bytes
+pub record Parts (v : Event) (numbers tail : List ℕ) (size : ℕ) : Type 0 where
+  pub may : writable v ≡ true
+  pub smalls : everyIn small numbers ≡ true
+  pub bytes : numbersBytes numbers ++ tail ≡ bytesOf v
+  pub long : size ≡ length (numbersBytes numbers ++ tail)
 
-module _ (head list word b : List ℕ) (used : ℕ) where
-  abbrev pub parts : Writing
-  parts = partsWriting (head ++ list) word b used
+-- the length of the parts, number by number
 
-  parts-length : length (numbersBytes (head ++ list) ++ word) ≡ length (numbersBytes head) + length (numbersBytes list) + length word
-  parts-length = rw numbers-append (simp length-append)
+pub record Long (numbers tail : List ℕ) (n : ℕ) : Type 0 where
+  pub is : n ≡ length (numbersBytes numbers ++ tail)
 
-  parts-large : everyIn small (head ++ list) ≡ false → Writes (Written.Refused 14) b parts
-  unfolding partsWriting
-  parts-large f = refuses 14 b (if-false _ _ f)
+pub long-none : (tail : List ℕ) → Long [] tail (length tail)
+unfolding numbersBytes
+long-none tail = record { is = refl }
 
-  pub head-large : everyIn small head ≡ false → Writes (Written.Refused 14) b parts
-  head-large f = parts-large (every-append small head list ∙ and-left-false _ f)
+pub long-next : (x : ℕ) {m n : ℕ} {numbers tail : List ℕ} → m ≡ length (numberBytes x) → Long numbers tail n → Long (x ∷ numbers) tail (m + n)
+unfolding numbersBytes
+long-next x {numbers} {tail} e f = record { is = rw (append-assoc (numberBytes x) (numbersBytes numbers) tail, length-append) (omega (arith, e, f .is)) }
 
-  pub list-large : everyIn small list ≡ false → Writes (Written.Refused 14) b parts
-  list-large f = parts-large (every-append small head list ∙ and-right-false (everyIn small head) f)
+-- The parts that are left have room from `at` on, and once they are stored the event is written.
+pub record Rest (v : Event) (b : List ℕ) (used : ℕ) (numbers tail x : List ℕ) (at : ℕ) : Type 0 where
+  pub smalls : everyIn small numbers ≡ true
+  pub room : at + length (numbersBytes numbers ++ tail) ≤ length x
+  pub whole : (z : List ℕ) (r : ℕ) → Stored (numbersBytes numbers ++ tail) x at z r → Writes (Written.Used r) z (writingOf v b used)
 
-  parts-small : everyIn small head ≡ true → everyIn small list ≡ true → parts ≡ fitted (numbersBytes (head ++ list) ++ word) b used
-  unfolding partsWriting
-  parts-small t u = if-true _ _ (every-append-both small head list t u)
+module _ (v : Event) (b : List ℕ) (used : ℕ) where
+  module _ {numbers tail : List ℕ} {size : ℕ} (o : Parts v numbers tail size) where
+    size-is : size ≡ length (bytesOf v)
+    size-is = o .long ∙ ap length (o .bytes)
 
-  -- by the sizes that were found
-  module _ (t : everyIn small head ≡ true) (u : everyIn small list ≡ true) {m n : ℕ} (e : m ≡ length (numbersBytes head)) (f : n ≡ length (numbersBytes list)) where
-    pub parts-full : leb (used + (m + n + length word)) (length b) ≡ false → Writes (Written.Refused 10) b parts
-    unfolding fitted
-    parts-full h = refuses 10 b (parts-small t u ∙ if-false _ _ (rw (parts-length, ← e, ← f) h))
+    pub full : leb (used + size) (length b) ≡ false → Writes (Written.Refused 10) b (writingOf v b used)
+    unfolding writingOf fitted
+    full h = refuses 10 b (if-true _ _ (o .may) ∙ if-false _ _ (rw (← size-is) h))
 
-    pub room-of : leb (used + (m + n + length word)) (length b) ≡ true → Room head list word b used
-    room-of h = record { head-small = t; list-small = u; fits = rw (← e, ← f) (leb-true _ _ h) }
+    pub rest-all : leb (used + size) (length b) ≡ true → Rest v b used numbers tail b used
+    unfolding writingOf fitted put
+    rest-all h =
+        record {
+          smalls = o .smalls;
+          room = rw (← o .long) (leb-true _ _ h);
+          whole = λ z r s.
+              let all : Stored (bytesOf v) b used z r = stored-as (o .bytes) s in
+              let room : used + length (bytesOf v) ≤ length b = rw (← size-is) (leb-true _ _ h) in
+              writes-as (sym (if-true _ _ (o .may) ∙ if-true _ _ (le-leb _ _ room))) (ap Written.Used (all .next), all .stored ∙ sets-eq _ b used room);
+        }
 
-  module _ (o : Room head list word b used) {x : List ℕ} {p : ℕ} (v : Stored (numbersBytes head) b used x p) where
-    pub second-fits : p + length (numbersBytes list) ≤ length x
-    second-fits = omega (arith, o .fits, v .next, stored-length v)
+  module _ {n : ℕ} {numbers tail x : List ℕ} {at : ℕ} (o : Rest v b used (n ∷ numbers) tail x at) where
+    next-long : length (numberBytes n) + length (numbersBytes numbers ++ tail) ≡ length (numbersBytes (n ∷ numbers) ++ tail)
+    next-long = long-next n {numbers = numbers} {tail = tail} refl (record { is = refl }) .is
 
-    module _ {y : List ℕ} {q : ℕ} (w : Stored (numbersBytes list) x p y q) where
-      pub third-fits : q + length word ≤ length y
-      third-fits = omega (arith, o .fits, v .next, w .next, stored-length v, stored-length w)
+    pub rest-next : (n < 4_294_967_296) × (at + length (numberBytes n) ≤ length x)
+    unfolding everyIn
+    rest-next = (ltb-true _ _ (and-left (small n) (everyIn small numbers) (o .smalls)), omega (arith, o .room, next-long))
 
-      pub parts-stored : {z : List ℕ} {r : ℕ} → Stored word y q z r → Writes (Written.Used r) z parts
-      unfolding fitted put
-      parts-stored {z} {r} s =
-          let all : Stored (numbersBytes (head ++ list) ++ word) b used z r = stored-more (stored-as (sym (numbers-append head list)) (stored-more v w)) s in
-          let room : used + length (numbersBytes (head ++ list) ++ word) ≤ length b = omega (arith, o .fits, parts-length) in
-          writes-as (sym (parts-small (o .head-small) (o .list-small) ∙ if-true _ _ (le-leb _ _ room)))
-          (ap Written.Used (all .next), all .stored ∙ sets-eq _ b used room)
+    pub rest-put : {y : List ℕ} {r : ℕ} → Stored (numberBytes n) x at y r → Rest v b used numbers tail y r
+    unfolding everyIn numbersBytes
+    rest-put s =
+        record {
+          smalls = and-right (small n) (everyIn small numbers) (o .smalls);
+          room = omega (arith, o .room, next-long, s .next, stored-length s);
+          whole = λ z q t. o .whole z q (stored-as (sym (append-assoc (numberBytes n) (numbersBytes numbers) tail)) (stored-more s t));
+        }
+
+  module _ {tail x : List ℕ} {at : ℕ} (o : Rest v b used [] tail x at) where
+    pub tail-fits : at + length tail ≤ length x
+    unfolding numbersBytes
+    tail-fits = o .room
+
+    pub tail-put : {z : List ℕ} {r : ℕ} → Stored tail x at z r → Writes (Written.Used r) z (writingOf v b used)
+    unfolding numbersBytes
+    tail-put s = o .whole _ _ s
+
+  -- with no tail the last number ends it
+  pub rest-none : {x : List ℕ} {at : ℕ} → Rest v b used [] [] x at → Writes (Written.Used at) x (writingOf v b used)
+  rest-none o = tail-put o (record { stored = refl; next = omega arith })

@@ -1,24 +1,24 @@
--- Each record as its parts, or refused for a field out of its range.
-use Prim.Native.Nat.{ℕ, _≤_, _<_}
-use mathlib.Core.Path.{_≡_, refl, ap₂}
-use mathlib.Core.Bool.{true, false, _&&_, and-true, and-assoc}
-use mathlib.Core.List.{List, [], _∷_, _++_, append-nil}
+-- Each record in its parts, or refused for a field out of its range.
+use Prim.Native.Nat.{ℕ, _+_, _≤_, _<_}
+use mathlib.Core.Path.{_≡_, refl, sym}
+use mathlib.Core.Bool.{true, false, _&&_}
+use mathlib.Core.List.{List, [], _∷_, append-nil}
 use native.Mathlib.Omega.{arith}
 use lib.ListN.{length}
 use lib.Dec.{leb}
-use borrow.Author.Tests.{lt-leb, lt-ltb}
-use Rattle.laws.specs.Bools.{if_then_else_}
+use borrow.Author.Tests.{lt-leb, lt-ltb, le-ltb}
 use Rattle.laws.specs.Sequence.{everyIn}
-use Rattle.laws.proofs.Bools.{if-false, and-left-false, and-right-false}
+use Rattle.laws.proofs.Bools.{if-false, and-both, and-left-false, and-right-false}
 use Rattle.rules.specs.Setup.{within}
 use Rattle.rules.proofs.RangeFacts.{within-of}
 use Rattle.journal.specs.declared.Written.{Written}
 use Rattle.journal.specs.declared.Written.the-variants
 use Rattle.journal.specs.Numbers.{small}
-use Rattle.journal.specs.Records.{Event, name, job, pick, report, nameNumber, jobCount}
-use Rattle.journal.specs.Writes.{numbersBytes, fitted, refusing, bytesOf, writable, writingOf}
-use Rattle.writer.specs.Parts.{partsWriting}
-use Rattle.writer.proofs.PartLaws.{Writes, refuses}
+use Rattle.journal.specs.Records.{Event, name, job, pick, report, nameNumber, jobCount, reportOutcome}
+use Rattle.journal.specs.Writes.{numberBytes, numbersBytes, bytesOf, writable, writingOf}
+use Rattle.journal.proofs.Groups.{numbers-append}
+use Rattle.writer.proofs.NumberLaws.{size-one}
+use Rattle.writer.proofs.PartLaws.{Writes, refuses, Parts, long-none, long-next}
 
 -- a number out of its range, or in one
 
@@ -31,39 +31,52 @@ module _ (low high x : ℕ) where
   unfolding within
   above-range h = and-right-false (leb low x) (lt-leb x high h)
 
-small-of : (x : ℕ) → x ≤ 256 → small x ≡ true
-small-of x h = lt-ltb x 4_294_967_296 (omega arith)
+module _ (x : ℕ) where
+  large : 4_294_967_295 < x → small x ≡ false
+  large h = le-ltb x 4_294_967_296 (omega arith)
+
+  small-of : x ≤ 4_294_967_295 → small x ≡ true
+  small-of h = lt-ltb x 4_294_967_296 (omega arith)
+
+  one-byte : x < 128 → 1 ≡ length (numberBytes x)
+  unfolding numberBytes
+  one-byte h = size-one 4 x h
+
+-- A field is out of its range.
 
 module _ (b : List ℕ) (used : ℕ) where
   abbrev pub Refuses : Event → Type 0
-  Refuses e = Writes (Written.Refused 14) b (writingOf e b used)
+  Refuses v = Writes (Written.Refused 14) b (writingOf v b used)
 
-  abbrev pub Parts : List ℕ → List ℕ → Event → Type 0
-  Parts numbers word e = partsWriting numbers word b used ≡ writingOf e b used
-
-  not-writable : (e : Event) → writable e ≡ false → Refuses e
+  not-writable : (v : Event) → writable v ≡ false → Refuses v
   unfolding writingOf
-  not-writable e f = refuses 14 b (if-false _ _ f)
+  not-writable v f = refuses 14 b (if-false _ _ f)
 
-  parts-are : (numbers word : List ℕ) (e : Event) → everyIn small numbers ≡ writable e → numbersBytes numbers ++ word ≡ bytesOf e → Parts numbers word e
-  unfolding partsWriting writingOf
-  parts-are numbers word e t h = ap₂ (λ c bytes. if c then fitted bytes b used else refusing 14 b) t h
-
-  pub pick-parts : (clock : ℕ) → Parts (2 ∷ clock ∷ []) [] (pick clock)
-  unfolding everyIn writable bytesOf
-  pick-parts clock = parts-are (2 ∷ clock ∷ []) [] (pick clock) (and-true (small clock)) (append-nil (numbersBytes (2 ∷ clock ∷ [])))
+  pub pick-clock : (clock : ℕ) → 4_294_967_295 < clock → Refuses (pick clock)
+  unfolding writable
+  pick-clock clock h = not-writable (pick clock) (large clock h)
 
   module _ (clock e ticket outcome : ℕ) where
+    pub report-clock : 4_294_967_295 < clock → Refuses (report clock e ticket outcome)
+    unfolding writable
+    report-clock h =
+        not-writable (report clock e ticket outcome)
+        (and-left-false (reportOutcome outcome) (and-left-false (small ticket) (and-left-false (small e) (large clock h))))
+
+    pub report-entry : 4_294_967_295 < e → Refuses (report clock e ticket outcome)
+    unfolding writable
+    report-entry h =
+        not-writable (report clock e ticket outcome)
+        (and-left-false (reportOutcome outcome) (and-left-false (small ticket) (and-right-false (small clock) (large e h))))
+
+    pub report-ticket : 4_294_967_295 < ticket → Refuses (report clock e ticket outcome)
+    unfolding writable
+    report-ticket h =
+        not-writable (report clock e ticket outcome) (and-left-false (reportOutcome outcome) (and-right-false (small clock && small e) (large ticket h)))
+
     pub report-outcome : 1 < outcome → Refuses (report clock e ticket outcome)
     unfolding writable
     report-outcome h = not-writable (report clock e ticket outcome) (and-right-false (small clock && small e && small ticket) (above-range 0 1 outcome h))
-
-    pub report-parts : outcome ≤ 1 → Parts (3 ∷ clock ∷ e ∷ ticket ∷ outcome ∷ []) [] (report clock e ticket outcome)
-    unfolding everyIn writable bytesOf
-    report-parts h =
-        parts-are (3 ∷ clock ∷ e ∷ ticket ∷ outcome ∷ []) [] (report clock e ticket outcome)
-        (rw (within-of {low = 0} {high = 1} {x = outcome} (omega arith, h), small-of outcome (omega arith)) (simp (and-true, and-assoc)))
-        (append-nil (numbersBytes (3 ∷ clock ∷ e ∷ ticket ∷ outcome ∷ [])))
 
   module _ (d : ℕ) (word : List ℕ) where
     pub name-number : 31 < d → Refuses (name d word)
@@ -78,14 +91,19 @@ module _ (b : List ℕ) (used : ℕ) where
     unfolding writable
     name-long h = not-writable (name d word) (and-right-false (nameNumber d) (above-range 1 63 (length word) h))
 
-    pub name-parts : d ≤ 31 → 1 ≤ length word → length word ≤ 63 → Parts (0 ∷ d ∷ length word ∷ []) word (name d word)
-    unfolding everyIn writable bytesOf
-    name-parts h k l =
-        let n = within-of {low = 0} {high = 31} {x = d} (omega arith, h) in
-        let s = within-of {low = 1} {high = 63} {x = length word} (k, l) in
-        parts-are (0 ∷ d ∷ length word ∷ []) word (name d word) (rw (n, s, small-of d (omega arith), small-of (length word) (omega arith)) refl) refl
-
   module _ (clock t : ℕ) (dests : List ℕ) where
+    pub job-clock : 4_294_967_295 < clock → Refuses (job clock t dests)
+    unfolding writable
+    job-clock h =
+        not-writable (job clock t dests)
+        (and-left-false (everyIn small dests) (and-left-false (jobCount (length dests)) (and-left-false (small t) (large clock h))))
+
+    pub job-transport : 4_294_967_295 < t → Refuses (job clock t dests)
+    unfolding writable
+    job-transport h =
+        not-writable (job clock t dests)
+        (and-left-false (everyIn small dests) (and-left-false (jobCount (length dests)) (and-right-false (small clock) (large t h))))
+
     job-count : jobCount (length dests) ≡ false → Refuses (job clock t dests)
     unfolding writable
     job-count f = not-writable (job clock t dests) (and-left-false (everyIn small dests) (and-right-false (small clock && small t) f))
@@ -96,9 +114,79 @@ module _ (b : List ℕ) (used : ℕ) where
     pub job-long : 256 < length dests → Refuses (job clock t dests)
     job-long h = job-count (above-range 1 256 (length dests) h)
 
-    pub job-parts : 1 ≤ length dests → length dests ≤ 256 → Parts (1 ∷ clock ∷ t ∷ length dests ∷ dests) [] (job clock t dests)
-    unfolding everyIn writable bytesOf
-    job-parts k l =
-        parts-are (1 ∷ clock ∷ t ∷ length dests ∷ dests) [] (job clock t dests)
-        (rw (within-of {low = 1} {high = 256} {x = length dests} (k, l), small-of (length dests) (omega arith)) (simp (and-true, and-assoc)))
-        (append-nil (numbersBytes (1 ∷ clock ∷ t ∷ length dests ∷ dests)))
+    pub job-large : everyIn small dests ≡ false → Refuses (job clock t dests)
+    unfolding writable
+    job-large f = not-writable (job clock t dests) (and-right-false (small clock && small t && jobCount (length dests)) f)
+
+-- All fields are in their ranges; the sizes are those that were found.
+
+pub pick-parts : {clock n : ℕ} → clock ≤ 4_294_967_295 → n ≡ length (numberBytes clock) → Parts (pick clock) (2 ∷ clock ∷ []) [] (1 + n)
+unfolding everyIn writable bytesOf
+pick-parts {clock} h e =
+    record {
+      may = small-of clock h;
+      smalls = and-both (small-of clock h) refl;
+      bytes = append-nil _;
+      long = omega (arith, long-next 2 (one-byte 2 (omega arith)) (long-next clock e (long-none [])) .is);
+    }
+
+pub report-parts :
+    {clock entry ticket outcome m n l : ℕ}
+    → clock ≤ 4_294_967_295
+    → entry ≤ 4_294_967_295
+    → ticket ≤ 4_294_967_295
+    → outcome ≤ 1
+    → m ≡ length (numberBytes clock)
+    → n ≡ length (numberBytes entry)
+    → l ≡ length (numberBytes ticket)
+    → Parts (report clock entry ticket outcome) (3 ∷ clock ∷ entry ∷ ticket ∷ outcome ∷ []) [] (1 + m + n + l + 1)
+unfolding everyIn writable bytesOf
+report-parts {clock} {entry} {ticket} {outcome} h i j k e f g =
+    let c = small-of clock h in
+    let d = small-of entry i in
+    let t = small-of ticket j in
+    record {
+      may = and-both (and-both (and-both c d) t) (within-of {low = 0} {high = 1} {x = outcome} (omega arith, k));
+      smalls = and-both c (and-both d (and-both t (and-both (small-of outcome (omega arith)) refl)));
+      bytes = append-nil _;
+      long =
+          let last = long-next ticket g (long-next outcome (one-byte outcome (omega arith)) (long-none [])) in
+          omega (arith, long-next 3 (one-byte 3 (omega arith)) (long-next clock e (long-next entry f last)) .is);
+    }
+
+pub name-parts : {d : ℕ} {word : List ℕ} → d ≤ 31 → 1 ≤ length word → length word ≤ 63 → Parts (name d word) (0 ∷ d ∷ length word ∷ []) word (3 + length word)
+unfolding everyIn writable bytesOf
+name-parts {d} {word} h k l =
+    record {
+      may = and-both (within-of {low = 0} {high = 31} {x = d} (omega arith, h)) (within-of {low = 1} {high = 63} {x = length word} (k, l));
+      smalls = and-both (small-of d (omega arith)) (and-both (small-of (length word) (omega arith)) refl);
+      bytes = refl;
+      long =
+          let last = long-next (length word) (one-byte (length word) (omega arith)) (long-none word) in
+          omega (arith, long-next 0 (one-byte 0 (omega arith)) (long-next d (one-byte d (omega arith)) last) .is);
+    }
+
+pub job-parts :
+    {clock t : ℕ} {dests : List ℕ} {m n l o : ℕ}
+    → clock ≤ 4_294_967_295
+    → t ≤ 4_294_967_295
+    → 1 ≤ length dests
+    → length dests ≤ 256
+    → everyIn small dests ≡ true
+    → m ≡ length (numberBytes clock)
+    → n ≡ length (numberBytes t)
+    → l ≡ length (numberBytes (length dests))
+    → o ≡ length (numbersBytes dests)
+    → Parts (job clock t dests) (1 ∷ clock ∷ t ∷ length dests ∷ []) (numbersBytes dests) (1 + m + n + l + o)
+unfolding everyIn writable bytesOf
+job-parts {clock} {t} {dests} h i j k s d e f g =
+    let c = small-of clock h in
+    let u = small-of t i in
+    record {
+      may = and-both (and-both (and-both c u) (within-of {low = 1} {high = 256} {x = length dests} (j, k))) s;
+      smalls = and-both c (and-both u (and-both (small-of (length dests) (omega arith)) refl));
+      bytes = sym (numbers-append (1 ∷ clock ∷ t ∷ length dests ∷ []) dests);
+      long =
+          let last = long-next t e (long-next (length dests) f (long-none (numbersBytes dests))) in
+          omega (arith, g, long-next 1 (one-byte 1 (omega arith)) (long-next clock d last) .is);
+    }

@@ -4,7 +4,13 @@
 mod parts;
 
 use journal::Written;
-use parts::write_parts;
+use parts::all_small;
+use parts::fits;
+use parts::put_number;
+use parts::put_numbers;
+use parts::put_word;
+use parts::size_of;
+use parts::size_of_all;
 ghost use mathlib.Core.Path.{_≡_};
 ghost use Rattle.journal.specs.Records.{name, job, pick, report};
 ghost use Rattle.journal.specs.Writes.{writingOf};
@@ -24,9 +30,13 @@ pub fn write_name(buffer: &mut [u8], used: usize, destination: u64, word: &[u8])
     if 63 < length {
         return Written::Refused(14);
     }
-    let head = [0, destination, length as u64];
-    let none: [u64; 0] = [];
-    write_parts(buffer, used, &head, &none, word)
+    if !fits(buffer.len(), used, 3 + length) {
+        return Written::Refused(10);
+    }
+    let mut at = put_number(buffer, used, 0);
+    at = put_number(buffer, at, destination);
+    at = put_number(buffer, at, length as u64);
+    Written::Used(put_word(buffer, at, word))
 }
 
 // A job, with a destination for each of its entries.
@@ -41,23 +51,44 @@ pub fn write_job(
     ensures bytes { λ r. ⌜ now (buffer .exit) ≡ writingOf (job clock transport (now (destinations .entry))) (now (buffer .entry)) used .buffer ⌝ }
 {
     let count = destinations.len();
+    if 4294967295 < clock {
+        return Written::Refused(14);
+    }
+    if 4294967295 < transport {
+        return Written::Refused(14);
+    }
     if count < 1 {
         return Written::Refused(14);
     }
     if 256 < count {
         return Written::Refused(14);
     }
-    let head = [1, clock, transport, count as u64];
-    write_parts(buffer, used, &head, destinations, b"")
+    if !all_small(destinations) {
+        return Written::Refused(14);
+    }
+    let head = 1 + size_of(clock) + size_of(transport) + size_of(count as u64);
+    if !fits(buffer.len(), used, head + size_of_all(destinations)) {
+        return Written::Refused(10);
+    }
+    let mut at = put_number(buffer, used, 1);
+    at = put_number(buffer, at, clock);
+    at = put_number(buffer, at, transport);
+    at = put_number(buffer, at, count as u64);
+    Written::Used(put_numbers(buffer, at, destinations))
 }
 
 pub fn write_pick(buffer: &mut [u8], used: usize, clock: u64) -> Written
     ensures answer { λ r. ⌜ r ≡ writingOf (pick clock) (now (buffer .entry)) used .answer ⌝ }
     ensures bytes { λ r. ⌜ now (buffer .exit) ≡ writingOf (pick clock) (now (buffer .entry)) used .buffer ⌝ }
 {
-    let head = [2, clock];
-    let none: [u64; 0] = [];
-    write_parts(buffer, used, &head, &none, b"")
+    if 4294967295 < clock {
+        return Written::Refused(14);
+    }
+    if !fits(buffer.len(), used, 1 + size_of(clock)) {
+        return Written::Refused(10);
+    }
+    let at = put_number(buffer, used, 2);
+    Written::Used(put_number(buffer, at, clock))
 }
 
 // A report; outcome 0 is a success, 1 a failure.
@@ -72,10 +103,25 @@ pub fn write_report(
     ensures answer { λ r. ⌜ r ≡ writingOf (report clock entry ticket outcome) (now (buffer .entry)) used .answer ⌝ }
     ensures bytes { λ r. ⌜ now (buffer .exit) ≡ writingOf (report clock entry ticket outcome) (now (buffer .entry)) used .buffer ⌝ }
 {
+    if 4294967295 < clock {
+        return Written::Refused(14);
+    }
+    if 4294967295 < entry {
+        return Written::Refused(14);
+    }
+    if 4294967295 < ticket {
+        return Written::Refused(14);
+    }
     if 1 < outcome {
         return Written::Refused(14);
     }
-    let head = [3, clock, entry, ticket, outcome];
-    let none: [u64; 0] = [];
-    write_parts(buffer, used, &head, &none, b"")
+    let size = 1 + size_of(clock) + size_of(entry) + size_of(ticket) + 1;
+    if !fits(buffer.len(), used, size) {
+        return Written::Refused(10);
+    }
+    let mut at = put_number(buffer, used, 3);
+    at = put_number(buffer, at, clock);
+    at = put_number(buffer, at, entry);
+    at = put_number(buffer, at, ticket);
+    Written::Used(put_number(buffer, at, outcome))
 }

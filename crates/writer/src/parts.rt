@@ -1,45 +1,16 @@
-// A record as its parts: the numbers at its head, a list of numbers behind them, and the bytes of a name.
-use journal::Written;
+// What records are made of: numbers, lists of numbers, the bytes of a name.
 ghost use Prim.Native.Nat.{_+_, _≤_, _<_};
 ghost use mathlib.Core.Path.{_≡_};
 ghost use mathlib.Core.Bool.{true};
-ghost use mathlib.Core.List.{_++_};
 ghost use lib.ListN.{length};
 ghost use lib.Dec.{leb};
 ghost use Rattle.laws.specs.Sequence.{everyIn};
 ghost use Rattle.journal.specs.Numbers.{small};
 ghost use Rattle.journal.specs.Writes.{numberBytes, numbersBytes};
-ghost use Rattle.writer.specs.Parts.{Stored, partsWriting};
-
-// Writes them, where all numbers are below 2^32 and there is room.
-pub fn write_parts(
-    buffer: &mut [u8],
-    used: usize,
-    head: &[u64],
-    list: &[u64],
-    word: &[u8],
-) -> Written
-    requires { ⌜ (length (now head) ≤ 5) × (length (now list) ≤ 256) × (length (now word) ≤ 63) ⌝ }
-    ensures answer { λ r. ⌜ r ≡ partsWriting (now (head .entry) ++ now (list .entry)) (now (word .entry)) (now (buffer .entry)) used .answer ⌝ }
-    ensures bytes { λ r. ⌜ now (buffer .exit) ≡ partsWriting (now (head .entry) ++ now (list .entry)) (now (word .entry)) (now (buffer .entry)) used .buffer ⌝ }
-{
-    if !all_small(head) {
-        return Written::Refused(14);
-    }
-    if !all_small(list) {
-        return Written::Refused(14);
-    }
-    let size = size_of_all(head) + size_of_all(list) + word.len();
-    if !fits(buffer.len(), used, size) {
-        return Written::Refused(10);
-    }
-    let mut at = put_numbers(buffer, used, head);
-    at = put_numbers(buffer, at, list);
-    Written::Used(put_word(buffer, at, word))
-}
+ghost use Rattle.writer.specs.Parts.{Stored};
 
 // Whether so many bytes fit behind those that are used.
-fn fits(room: usize, used: usize, size: usize) -> bool
+pub fn fits(room: usize, used: usize, size: usize) -> bool
     ensures { λ r. ⌜ r ≡ leb (used + size) room ⌝ }
 {
     if room < size {
@@ -48,7 +19,7 @@ fn fits(room: usize, used: usize, size: usize) -> bool
     used <= room - size
 }
 
-fn all_small(list: &[u64]) -> bool
+pub fn all_small(list: &[u64]) -> bool
     ensures { λ r. ⌜ r ≡ everyIn small (now (list .entry)) ⌝ }
 {
     let mut i: usize = 0;
@@ -62,7 +33,7 @@ fn all_small(list: &[u64]) -> bool
 }
 
 // How many groups a number has.
-fn size_of(x: u64) -> usize
+pub fn size_of(x: u64) -> usize
     requires { ⌜ x < 4294967296 ⌝ }
     ensures { λ r. ⌜ (r ≡ length (numberBytes x)) × (r ≤ 5) ⌝ }
 {
@@ -81,7 +52,7 @@ fn size_of(x: u64) -> usize
     5
 }
 
-fn size_of_all(list: &[u64]) -> usize
+pub fn size_of_all(list: &[u64]) -> usize
     requires { ⌜ (length (now list) ≤ 256) × (everyIn small (now list) ≡ true) ⌝ }
     ensures { λ r. ⌜ (r ≡ length (numbersBytes (now (list .entry)))) × (r ≤ 1280) ⌝ }
 {
@@ -96,7 +67,7 @@ fn size_of_all(list: &[u64]) -> usize
 
 // Each of these puts something at a place of a buffer that has room for it, and answers the place behind it.
 
-fn put_number(buffer: &mut [u8], at: usize, x: u64) -> usize
+pub fn put_number(buffer: &mut [u8], at: usize, x: u64) -> usize
     requires { ⌜ (x < 4294967296) × (at + length (numberBytes x) ≤ length (now buffer)) ⌝ }
     ensures { λ r. ⌜ Stored (numberBytes x) (now (buffer .entry)) at (now (buffer .exit)) r ⌝ }
 {
@@ -111,7 +82,7 @@ fn put_number(buffer: &mut [u8], at: usize, x: u64) -> usize
     p + 1
 }
 
-fn put_numbers(buffer: &mut [u8], at: usize, list: &[u64]) -> usize
+pub fn put_numbers(buffer: &mut [u8], at: usize, list: &[u64]) -> usize
     requires { ⌜ (everyIn small (now list) ≡ true) × (at + length (numbersBytes (now list)) ≤ length (now buffer)) ⌝ }
     ensures { λ r. ⌜ Stored (numbersBytes (now (list .entry))) (now (buffer .entry)) at (now (buffer .exit)) r ⌝ }
 {
@@ -124,7 +95,7 @@ fn put_numbers(buffer: &mut [u8], at: usize, list: &[u64]) -> usize
     p
 }
 
-fn put_word(buffer: &mut [u8], at: usize, word: &[u8]) -> usize
+pub fn put_word(buffer: &mut [u8], at: usize, word: &[u8]) -> usize
     requires { ⌜ at + length (now word) ≤ length (now buffer) ⌝ }
     ensures { λ r. ⌜ Stored (now (word .entry)) (now (buffer .entry)) at (now (buffer .exit)) r ⌝ }
 {

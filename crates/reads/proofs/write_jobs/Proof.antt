@@ -6,10 +6,10 @@ use Rattle.reads.proofs.write_jobs.Statement.{statement}
 use Rattle.reads.proofs.write_jobs.Tie as tie
 
 abbrev Inv-loop : tie.InvT-loop
-Inv-loop buffer₀ rounds dests used₀ left₀ buffer used left = length buffer ≡ length buffer₀
+Inv-loop buffer₀ rounds seed entries used₀ left₀ buffer used left = length buffer ≡ length buffer₀
 
 abbrev μ-loop : tie.MeasureT-loop
-μ-loop buffer₀ rounds dests used₀ left₀ buffer used left = left
+μ-loop buffer₀ rounds seed entries used₀ left₀ buffer used left = left
 
 loop-holds : tie.Need-loop-holds Inv-loop μ-loop
 loop-holds c = search needs
@@ -19,9 +19,6 @@ sub-left c = search needs
 
 clock-of-requires : tie.Need-clock-of-requires Inv-loop μ-loop
 clock-of-requires c κs = search needs
-
-slice-aggregate-write-job : tie.Need-slice-aggregate-write-job Inv-loop μ-loop
-slice-aggregate-write-job c = search needs
 
 write-job-requires : tie.Need-write-job-requires Inv-loop μ-loop
 write-job-requires c κs = search needs
@@ -50,7 +47,6 @@ write-jobs-spec =
     loop-holds
     sub-left
     clock-of-requires
-    slice-aggregate-write-job
     write-job-requires
     used-of-requires
     loop-less

@@ -6,10 +6,10 @@ use Rattle.reads.proofs.write_turns.Statement.{statement}
 use Rattle.reads.proofs.write_turns.Tie as tie
 
 abbrev Inv-loop : tie.InvT-loop
-Inv-loop buffer₀ rounds used₀ left₀ buffer used left = length buffer ≡ length buffer₀
+Inv-loop buffer₀ rounds seed entry used₀ left₀ buffer used left = length buffer ≡ length buffer₀
 
 abbrev μ-loop : tie.MeasureT-loop
-μ-loop buffer₀ rounds used₀ left₀ buffer used left = left
+μ-loop buffer₀ rounds seed entry used₀ left₀ buffer used left = left
 
 loop-holds : tie.Need-loop-holds Inv-loop μ-loop
 loop-holds c = search needs
