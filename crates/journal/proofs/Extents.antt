@@ -8,11 +8,12 @@ use native.Mathlib.Omega.{arith}
 use lib.ListN.{length, take, drop, length-drop}
 use lib.Seq.{length-take-le}
 use lib.Dec.{eqb, ltb, leb}
-use borrow.Author.Tests.{leb-true, leb-false}
+use borrow.Author.Tests.{leb-true, leb-false, le-leb}
+use Rattle.laws.specs.Bools.{if_then_else_}
 use Rattle.laws.proofs.Bools.{if-cases}
 use Rattle.rules.specs.State.{at}
 use Rattle.journal.specs.Numbers.{Number, number, fault, above, groupsAt, wellWritten, numberAt}
-use Rattle.journal.specs.Records.{Event, name, job, pick, report, Found, event, closed}
+use Rattle.journal.specs.Records.{Event, name, job, pick, report, end, Found, event, closed}
 use Rattle.journal.specs.Records.{ranged, fieldOf, field, nameFrom, nameFields, jobFrom, jobFields, pickFields, reportFields, fieldsOf, readAt}
 
 -- a number that is read ends behind the offset, and within the journal; a fault has a number that is not 0
@@ -138,3 +139,11 @@ read-ends bytes offset =
     if-cases (Ends bytes (offset + 2)) (leb (length bytes) offset) (λ l. tt) (λ l.
     then-ends bytes offset (offset + 2) offset _ _ (λ kind next p q.
     sooner bytes (omega (arith, p)) (fieldsOf bytes offset kind next) (fields-end bytes offset kind next)))
+
+pub record-ends : (bytes : List ℕ) (offset : ℕ) {e : Event} {next : ℕ} → readAt bytes offset ≡ event e next → (offset + 2 ≤ next) × (next ≤ length bytes)
+record-ends bytes offset found = let ends = subst (Ends bytes (offset + 2)) found (read-ends bytes offset) in (ends .0, ends .1)
+
+-- at the end, and past it
+pub read-past : (bytes : List ℕ) (offset : ℕ) → length bytes ≤ offset → readAt bytes offset ≡ closed end
+unfolding readAt if_then_else_
+read-past bytes offset h = rw (le-leb (length bytes) offset h) refl

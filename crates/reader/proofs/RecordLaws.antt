@@ -7,15 +7,15 @@ use native.Mathlib.Omega.{arith}
 use lib.ListN.{length, take, drop, length-drop}
 use lib.Seq.{length-take-le}
 use lib.Dec.{leb}
-use borrow.Author.Tests.{leb-true, le-leb, lt-leb, ne-eqb}
+use borrow.Author.Tests.{le-leb, lt-leb, ne-eqb}
 use Rattle.laws.specs.Bools.{if_then_else_}
-use Rattle.laws.proofs.Bools.{case-bool, and-right}
+use Rattle.laws.proofs.Bools.{case-bool}
 use Rattle.rules.specs.Setup.{within}
 use Rattle.journal.specs.declared.Record.{Record}
 use Rattle.journal.specs.declared.Read.{Read}
 use Rattle.journal.specs.Numbers.{Number, number, fault, numberAt}
 use Rattle.journal.specs.Told.{recordOf, answerOf}
-use Rattle.journal.specs.Records.{pick, report, end, refused, event, closed, anySize, ranged, fieldOf, nameFrom, nameFields, jobFrom, jobFields, pickFields, reportFields, fieldsOf, readAt}
+use Rattle.journal.specs.Records.{pick, report, refused, event, closed, anySize, ranged, fieldOf, nameFrom, nameFields, jobFrom, jobFields, pickFields, reportFields, fieldsOf, readAt}
 
 -- a number that is read is in its range
 passes : (ℕ → Bool) → Number → Bool
@@ -30,10 +30,6 @@ ranged-passes range (fault k) = refl
 pub in-range : (range : ℕ → Bool) (n : Number) {x next : ℕ} → ranged range n ≡ number x next → range x ≡ true
 unfolding passes
 in-range range n h = sym (ap (passes range) h) ∙ ranged-passes range n
-
-pub at-most : (low high : ℕ) {x : ℕ} → within low high x ≡ true → x ≤ high
-unfolding within
-at-most low high {x} h = leb-true x high (and-right (leb low x) (leb x high) h)
 
 module _ (bytes : List ℕ) (start a : ℕ) where
   -- the number of a field, and the offset behind it; or its fault
@@ -127,35 +123,30 @@ module _ (bytes : List ℕ) (start clock t : ℕ) (dests : List ℕ) (more a : �
   unfolding jobFrom fieldOf
   next-read p f = let e : more ≡ suc (more - 1) = omega (arith, p) in ap (λ k. jobFrom bytes start clock t dests k a) e ∙ rw f refl
 
--- What stands at an offset: the end, a faulty kind, or the fields of its kind.
+-- What stands at an offset before the end: a faulty kind, or the fields of its kind.
 
-module _ (bytes : List ℕ) (offset : ℕ) where
-  pub reads-end : length bytes ≤ offset → readAt bytes offset ≡ closed end
-  unfolding readAt if_then_else_
-  reads-end h = rw (le-leb (length bytes) offset h) refl
+module _ (bytes : List ℕ) (offset : ℕ) (h : offset < length bytes) where
+  pub reads-faulty : {k : ℕ} → ranged (within 0 3) (numberAt bytes offset) ≡ fault k → readAt bytes offset ≡ closed (refused k offset)
+  unfolding readAt fieldOf if_then_else_
+  reads-faulty f = rw (lt-leb (length bytes) offset h, f) refl
 
-  module _ (h : offset < length bytes) where
-    pub reads-faulty : {k : ℕ} → ranged (within 0 3) (numberAt bytes offset) ≡ fault k → readAt bytes offset ≡ closed (refused k offset)
+  module _ {kind next : ℕ} (k : ranged (within 0 3) (numberAt bytes offset) ≡ number kind next) where
+    reads-fields : readAt bytes offset ≡ fieldsOf bytes offset kind next
     unfolding readAt fieldOf if_then_else_
-    reads-faulty f = rw (lt-leb (length bytes) offset h, f) refl
+    reads-fields = rw (lt-leb (length bytes) offset h, k) refl
 
-    module _ {kind next : ℕ} (k : ranged (within 0 3) (numberAt bytes offset) ≡ number kind next) where
-      reads-fields : readAt bytes offset ≡ fieldsOf bytes offset kind next
-      unfolding readAt fieldOf if_then_else_
-      reads-fields = rw (lt-leb (length bytes) offset h, k) refl
+    pub reads-name : kind ≡ 0 → readAt bytes offset ≡ nameFields bytes offset next
+    unfolding fieldsOf if_then_else_
+    reads-name e = reads-fields ∙ rw e refl
 
-      pub reads-name : kind ≡ 0 → readAt bytes offset ≡ nameFields bytes offset next
-      unfolding fieldsOf if_then_else_
-      reads-name e = reads-fields ∙ rw e refl
+    pub reads-job : kind ≡ 1 → readAt bytes offset ≡ jobFields bytes offset next
+    unfolding fieldsOf if_then_else_
+    reads-job e = reads-fields ∙ rw e refl
 
-      pub reads-job : kind ≡ 1 → readAt bytes offset ≡ jobFields bytes offset next
-      unfolding fieldsOf if_then_else_
-      reads-job e = reads-fields ∙ rw e refl
+    pub reads-pick : kind ≡ 2 → readAt bytes offset ≡ pickFields bytes offset next
+    unfolding fieldsOf if_then_else_
+    reads-pick e = reads-fields ∙ rw e refl
 
-      pub reads-pick : kind ≡ 2 → readAt bytes offset ≡ pickFields bytes offset next
-      unfolding fieldsOf if_then_else_
-      reads-pick e = reads-fields ∙ rw e refl
-
-      pub reads-report : (kind ≡ 0 → ⊥) → (kind ≡ 1 → ⊥) → (kind ≡ 2 → ⊥) → readAt bytes offset ≡ reportFields bytes offset next
-      unfolding fieldsOf if_then_else_
-      reads-report a b c = reads-fields ∙ rw (ne-eqb kind 0 a, ne-eqb kind 1 b, ne-eqb kind 2 c) refl
+    pub reads-report : (kind ≡ 0 → ⊥) → (kind ≡ 1 → ⊥) → (kind ≡ 2 → ⊥) → readAt bytes offset ≡ reportFields bytes offset next
+    unfolding fieldsOf if_then_else_
+    reads-report a b c = reads-fields ∙ rw (ne-eqb kind 0 a, ne-eqb kind 1 b, ne-eqb kind 2 c) refl

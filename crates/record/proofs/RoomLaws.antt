@@ -14,26 +14,26 @@ use Rattle.journal.specs.Records.{Event, name, job, pick, report, nameNumber, n
 use Rattle.journal.proofs.Groups.{groups-one, groups-more}
 use Rattle.journal.specs.Writes.{groupsOf, numberBytes, numbersBytes, bytesOf, writable}
 
-groups-few : (most x : ℕ) → length (groupsOf most x) ≤ most
+groups-at-most : (most x : ℕ) → length (groupsOf most x) ≤ most
 unfolding groupsOf
-groups-few zero x = omega arith
-groups-few (suc most) x = elim (decLt x 128) [
+groups-at-most zero x = omega arith
+groups-at-most (suc most) x = elim (decLt x 128) [
   | yes h ↦ rw (groups-one most x h) (omega arith)
-  | no h ↦ rw (groups-more most x (omega arith)) (omega (arith, groups-few most (x / 128)))
+  | no h ↦ rw (groups-more most x (omega arith)) (omega (arith, groups-at-most most (x / 128)))
 ]
 
-numbers-few : (l : List ℕ) → length (numbersBytes l) ≤ 5 * length l
+numbers-at-most : (l : List ℕ) → length (numbersBytes l) ≤ 5 * length l
 unfolding numberBytes numbersBytes
-numbers-few [] = omega arith
-numbers-few (x ∷ l) = simp length-append (omega (arith, groups-few 5 x, numbers-few l))
+numbers-at-most [] = omega arith
+numbers-at-most (x ∷ l) = simp length-append (omega (arith, groups-at-most 5 x, numbers-at-most l))
 
 pub record-short : (e : Event) → writable e ≡ true → length (bytesOf e) ≤ 1300
 unfolding bytesOf writable
 record-short (name d word) h =
     let n = within-facts {low = 1} {high = 63} {x = length word} (and-right (nameNumber d) (nameLength (length word)) h) in
-    simp length-append (omega (arith, numbers-few (0 ∷ d ∷ length word ∷ []), n .1))
+    simp length-append (omega (arith, numbers-at-most (0 ∷ d ∷ length word ∷ []), n .1))
 record-short (job clock t dests) h =
     let n = within-facts {low = 1} {high = 256} {x = length dests} (and-right (small clock && small t) (jobCount (length dests)) (and-left _ (everyIn small dests) h)) in
-    omega (arith, numbers-few (1 ∷ clock ∷ t ∷ length dests ∷ dests), n .1)
-record-short (pick clock) h = omega (arith, numbers-few (2 ∷ clock ∷ []))
-record-short (report clock e ticket outcome) h = omega (arith, numbers-few (3 ∷ clock ∷ e ∷ ticket ∷ outcome ∷ []))
+    omega (arith, numbers-at-most (1 ∷ clock ∷ t ∷ length dests ∷ dests), n .1)
+record-short (pick clock) h = omega (arith, numbers-at-most (2 ∷ clock ∷ []))
+record-short (report clock e ticket outcome) h = omega (arith, numbers-at-most (3 ∷ clock ∷ e ∷ ticket ∷ outcome ∷ []))

@@ -4,8 +4,6 @@ use mathlib.Core.Path.{_≡_, refl, sym, _∙_, ap, subst}
 use mathlib.Core.List.{List, [], _∷_}
 use native.Mathlib.Omega.{arith}
 use lib.ListN.{length}
-use borrow.Author.Tests.{le-leb}
-use Rattle.laws.specs.Bools.{if_then_else_}
 use Rattle.laws.specs.Sequence.{padded}
 use Rattle.laws.proofs.Sequence.{take-padded}
 use Rattle.rules.specs.Calls.{job as jobCall}
@@ -14,7 +12,7 @@ use Rattle.journal.specs.declared.Reading.{Reading}
 use Rattle.journal.specs.Records.{Event, name, job, pick, report, Close, end, refused, Found, event, closed, readAt}
 use Rattle.journal.specs.Journals.{Journal, thenRead, journalFrom, journalOf}
 use Rattle.journal.specs.Told.{recordOf, answerOf, destinationsOf, readingOf}
-use Rattle.journal.proofs.Extents.{Ends, read-ends}
+use Rattle.journal.proofs.Extents.{Ends, read-ends, record-ends, read-past}
 use Rattle.journal.specs.Replays.{lent, callOf}
 use Rattle.playing.specs.Plays.{callTold}
 
@@ -45,26 +43,18 @@ module _ (bytes : List ℕ) (at : ℕ) where
   closeIn (event e next) = end
   closeIn (closed c) = c
 
-  read-past : length bytes ≤ at → readAt bytes at ≡ closed end
-  unfolding readAt if_then_else_
-  read-past h = rw (le-leb (length bytes) at h) refl
-
   pub journal-closes : (left : ℕ) {c : Close} → length bytes ≤ left + at → readAt bytes at ≡ closed c → journalFrom left bytes at ≡ record { events = []; close = c }
   unfolding journalFrom thenRead
-  journal-closes zero h e = ap (λ c. record { events = []; close = c }) (ap closeIn (sym (read-past (omega (arith, h))) ∙ e))
+  journal-closes zero h e = ap (λ c. record { events = []; close = c }) (ap closeIn (sym (read-past bytes at (omega (arith, h))) ∙ e))
   journal-closes (suc left) h e = rw e refl
 
   module _ {e : Event} {next : ℕ} (found : readAt bytes at ≡ event e next) where
-    -- a record ends behind its offset, within the journal
-    pub record-ends : (at + 2 ≤ next) × (next ≤ length bytes)
-    record-ends = let ends = subst (Ends bytes (at + 2)) found (read-ends bytes at) in (ends .0, ends .1)
-
     pub journal-goes :
         (left : ℕ)
         → length bytes ≤ left + at
         → (k : ℕ) × (left ≡ suc k) × (journalFrom left bytes at ≡ record { events = e ∷ journalFrom k bytes next .events; close = journalFrom k bytes next .close })
     unfolding journalFrom thenRead
-    journal-goes zero h = absurd (omega (arith, h, record-ends))
+    journal-goes zero h = absurd (omega (arith, h, record-ends bytes at found))
     journal-goes (suc left) h = (left, refl, rw found refl)
 
 -- A record has two bytes or more.

@@ -19,7 +19,8 @@ use Rattle.journal.specs.Journals.{journalFrom, journalOf}
 use Rattle.journal.specs.Replays.{callOf, callsOf, eventsUsed, callsUsed, countUsed, closeUsed}
 use Rattle.playing.specs.Plays.{printed}
 use Rattle.replaying.specs.Replay.{replaySetup, closeLine, playedText}
-use Rattle.replaying.proofs.JournalLaws.{journal-closes, record-ends, journal-goes}
+use Rattle.journal.proofs.Extents.{record-ends}
+use Rattle.replaying.proofs.JournalLaws.{journal-closes, journal-goes}
 
 calls-more : (done : List Event) (e : Event) → callsOf (done ++ (e ∷ [])) ≡ callsOf done ++ callOf e
 unfolding callsOf

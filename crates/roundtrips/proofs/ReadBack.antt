@@ -1,6 +1,6 @@
 -- Request A8: "Reading what was written gives the same records".
 use Prim.Native.Nat.{ℕ, zero, suc, _+_, _*_, _-_, _/_, _%_, _^_, _≤_, _<_}
-use mathlib.Core.Path.{_≡_, refl, sym, _∙_, ap, ap₂, subst}
+use mathlib.Core.Path.{_≡_, refl, sym, _∙_, ap, ap₂}
 use mathlib.Core.Bool.{Bool, true}
 use mathlib.Core.List.{List, [], _∷_, _++_, append-assoc, append-nil}
 use native.Mathlib.Nat.{pow-zero, pow-suc}
@@ -14,13 +14,14 @@ use Rattle.laws.specs.Sequence.{everyIn}
 use Rattle.laws.proofs.Bools.{case-bool, and-left, and-right, or-right}
 use Rattle.laws.proofs.Joined.{and-4}
 use Rattle.rules.specs.Setup.{within}
+use Rattle.rules.proofs.RangeFacts.{within-facts}
 use Rattle.rules.specs.State.{at}
 use Rattle.journal.specs.Numbers.{Number, number, above, groupsAt, small, shortest, wellWritten, numberAt}
-use Rattle.journal.specs.Records.{Event, name, job, pick, report, end, Found, event, closed, nameNumber, nameLength, jobCount, reportOutcome}
+use Rattle.journal.specs.Records.{Event, name, job, pick, report, end, Found, event, nameNumber, nameLength, jobCount, reportOutcome}
 use Rattle.journal.specs.Records.{ranged, fieldOf, field, nameFrom, nameFields, jobFrom, jobFields, pickFields, reportFields, fieldsOf, readAt}
 use Rattle.journal.specs.Journals.{thenRead, journalFrom, journalOf}
 use Rattle.journal.specs.Writes.{groupsOf, numberBytes, numbersBytes, bytesOf, journalBytes, writable}
-use Rattle.journal.proofs.Extents.{Ends, read-ends}
+use Rattle.journal.proofs.Extents.{record-ends, read-past}
 use Rattle.journal.proofs.Groups.{groups-one, groups-more}
 use Rattle.roundtrips.specs.RoundTrips.{allWritable}
 
@@ -121,12 +122,8 @@ record Reads (bytes : List ℕ) (found : Found) (e : Event) (rest : List ℕ) : 
   is : found ≡ event e next
   behind : drop next bytes ≡ rest
 
-at-most : (low high x : ℕ) → within low high x ≡ true → x ≤ high
-unfolding within
-at-most low high x h = leb-true x high (and-right (leb low x) (leb x high) h)
-
 small-of : (low high x : ℕ) → high < 4_294_967_296 → within low high x ≡ true → small x ≡ true
-small-of low high x l h = lt-ltb x 4_294_967_296 (omega (arith, l, at-most low high x h))
+small-of low high x l h = lt-ltb x 4_294_967_296 (omega (arith, l, within-facts {low = low} {high = high} {x = x} h))
 
 module _ {bytes rest : List ℕ} where
   -- a number, and what stands behind it
@@ -155,7 +152,7 @@ module _ {bytes rest : List ℕ} where
       → Reads bytes (readAt bytes offset) e behind
   unfolding readAt numberBytes if_then_else_
   kind-read {offset} {kind} {numbers} r h reads =
-      let one = groups-one 4 kind (omega (arith, at-most 0 3 kind r)) in
+      let one = groups-one 4 kind (omega (arith, within-facts {low = 0} {high = 3} {x = kind} r)) in
       rw (lt-leb (length bytes) offset (from-inside bytes offset (stands-number h ∙ ap (λ g. g ++ (numbersBytes numbers ++ rest)) one)))
       (field-read offset _ _ (small-of 0 3 kind (omega arith) r) r h reads)
 
@@ -242,14 +239,6 @@ record-read bytes rest (report clock e ticket outcome) offset w h = kind-read re
 
 -- The journal.
 module _ (bytes : List ℕ) where
-  read-past : (offset : ℕ) → length bytes ≤ offset → readAt bytes offset ≡ closed end
-  unfolding readAt if_then_else_
-  read-past offset h = rw (le-leb (length bytes) offset h) refl
-
-  -- a record that is read ends behind its offset, within the journal
-  reads-on : {offset : ℕ} {e : Event} {rest : List ℕ} (r : Reads bytes (readAt bytes offset) e rest) → (offset < r .next) × (r .next ≤ length bytes)
-  reads-on {offset} r = let ends = subst (Ends bytes (offset + 2)) (r .is) (read-ends bytes offset) in (omega (arith, ends .0), ends .1)
-
   journal-read :
       (left offset : ℕ) (events : List Event)
       → length bytes ≤ left + offset
@@ -258,13 +247,13 @@ module _ (bytes : List ℕ) where
       → journalFrom left bytes offset ≡ record { events = events; close = end }
   unfolding journalFrom thenRead journalBytes allWritable
   journal-read zero offset [] l w h = refl
-  journal-read (suc left) offset [] l w h = rw (read-past offset (omega (arith, length-drop offset bytes, ap length h))) refl
-  journal-read zero offset (e ∷ events) l w h = absurd (omega (arith, l, reads-on (record-read bytes (journalBytes events) e offset (and-left (writable e) (allWritable events) w) h)))
+  journal-read (suc left) offset [] l w h = rw (read-past bytes offset (omega (arith, length-drop offset bytes, ap length h))) refl
+  journal-read zero offset (e ∷ events) l w h = absurd (omega (arith, l, record-ends bytes offset (record-read bytes (journalBytes events) e offset (and-left (writable e) (allWritable events) w) h .is)))
   journal-read (suc left) offset (e ∷ events) l w h =
       let r = record-read bytes (journalBytes events) e offset (and-left (writable e) (allWritable events) w) h in
       rw (r .is)
       (ap (λ j. record { events = e ∷ j .events; close = j .close })
-      (journal-read left (r .next) events (omega (arith, l, reads-on r)) (and-right (writable e) (allWritable events) w) (r .behind)))
+      (journal-read left (r .next) events (omega (arith, l, record-ends bytes offset (r .is))) (and-right (writable e) (allWritable events) w) (r .behind)))
 
 pub read-back : (events : List Event) → allWritable events ≡ true → journalOf (journalBytes events) ≡ record { events = events; close = end }
 unfolding journalOf

@@ -3,7 +3,8 @@ use mathlib.Core.Path.{sym, _∙_, ap}
 use borrow.Author.Needs.{needs}
 use Rattle.journal.specs.Told.{readingOf}
 use Rattle.fields.proofs.FieldLaws.{is-read, is-faulty}
-use Rattle.reader.proofs.RecordLaws.{reads-end, reads-faulty, reads-name, reads-job, reads-pick, reads-report}
+use Rattle.journal.proofs.Extents.{read-past}
+use Rattle.reader.proofs.RecordLaws.{reads-faulty, reads-name, reads-job, reads-pick, reads-report}
 use Rattle.reader.proofs.ReadingLaws.{name-alone, pick-alone, report-alone, told-alone, refused-told, end-told}
 use Rattle.reader.proofs.read_at.Statement.{statement}
 use Rattle.reader.proofs.read_at.Tie as tie
@@ -12,7 +13,7 @@ alone-requires : tie.Need-alone-requires
 alone-requires c κs = search needs
 
 returns : tie.Need-returns
-returns c = end-told (c .alone .ensures) ∙ sym (ap readingOf (reads-end _ _ (c .before .if1 .taken)))
+returns c = end-told (c .alone .ensures) ∙ sym (ap readingOf (read-past _ _ (c .before .if1 .taken)))
 
 ranged-requires : tie.Need-ranged-requires
 ranged-requires c κs = search needs

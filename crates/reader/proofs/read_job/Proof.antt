@@ -6,7 +6,8 @@ use borrow.Author.Needs.{needs}
 use Rattle.rules.specs.Setup.{within}
 use Rattle.journal.specs.Records.{jobFields}
 use Rattle.fields.proofs.FieldLaws.{is-read, is-faulty}
-use Rattle.reader.proofs.RecordLaws.{in-range, at-most, job-clock, job-transport, job-count, job-listed, next-faulty}
+use Rattle.rules.proofs.RangeFacts.{within-facts}
+use Rattle.reader.proofs.RecordLaws.{in-range, job-clock, job-transport, job-count, job-listed, next-faulty}
 use Rattle.reader.proofs.ReadingLaws.{refused-told, Listed, none-listed, one-more, all-listed}
 use Rattle.reader.proofs.read_job.Statement.{statement}
 use Rattle.reader.proofs.read_job.Tie as tie
@@ -64,7 +65,7 @@ loop-holds : tie.Need-loop-holds Inv-loop μ-loop
 loop-holds c =
     let t = c .before .before .before in
     let k = t .before .before .before in
-    none-listed _ _ (at-most 1 256 (in-range (within 1 256) _ (is-read _ _ _ (c .before .before .ranged .ensures) (c .if3 .left)))) (job-listed _ _ _
+    none-listed _ _ (within-facts {low = 1} {high = 256} (in-range (within 1 256) _ (is-read _ _ _ (c .before .before .ranged .ensures) (c .if3 .left))) .1) (job-listed _ _ _
     (is-read _ _ _ (k .before .before .number .ensures) (k .if1 .left)) (is-read _ _ _ (t .before .before .number2 .ensures) (t .if2 .left))
     (is-read _ _ _ (c .before .before .ranged .ensures) (c .if3 .left)))
 
