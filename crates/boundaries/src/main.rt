@@ -21,6 +21,7 @@
 //     range FIELD ..                          changes a field of the set-up, and sets up with it; the state stays
 //
 // Empty lines and lines that begin with '#' are written as they are.
+#![tactic(auto)]
 mod searched;
 
 ghost use Rattle.std.specs.Prelude.{◌*◌, ◌≤◌, length};

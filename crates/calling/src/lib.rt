@@ -1,4 +1,5 @@
 // One line, read as a call and made. A line that is no call leaves the state as it is.
+#![tactic(auto)]
 ghost use Rattle.std.specs.Prelude.{◌*◌, ◌≤◌, ◌≡◌, length};
 ghost use Rattle.rules.specs.Calls.{outcome_of, setup_reply};
 ghost use Rattle.lines.specs.Texts.{Put, malformed_text};

@@ -1,1 +1,2 @@
 // Counting on columns of rows. No code.
+#![tactic(auto)]

@@ -1,4 +1,5 @@
 // One call a line in, one answer a line out. Each answer is written before the next line is waited for.
+#![tactic(auto)]
 ghost use Rattle.std.specs.Prelude.{◌≡◌, ◌+◌, ◌*◌, ◌≤◌, ◌<◌, length};
 ghost use Rattle.console.specs.Lines.{after_line};
 

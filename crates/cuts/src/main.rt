@@ -1,5 +1,6 @@
 // Cuts lists of 512 pairs into groups many times (A5), to be timed from outside: docs/PERFORMANCE.md. The argument says which list; with none, each is cut a
 // few times.
+#![tactic(auto)]
 ghost use Rattle.std.specs.Prelude.{◌≡◌, length};
 
 use check::same;

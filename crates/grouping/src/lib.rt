@@ -1,5 +1,6 @@
 // Request A5: a list of (destination, recipient) pairs cut into groups, each of them one entry of a job. Where every destination's number is below 32, as
 // in every list that is not refused, the pairs are gone over twice, with tables: once to count, once to number. The definitions are those of recipients/specs.
+#![tactic(auto)]
 ghost use Rattle.std.specs.Prelude.{◌≡◌, true, false, ℕ, ◌+◌, ◌*◌, ◌≤◌, ◌<◌, length, ltb};
 ghost use Rattle.laws.specs.Sequence.{holds, padded, firsts_to};
 ghost use Rattle.rules.specs.State.{at};

@@ -6,6 +6,7 @@
 //     write LENGTH USED KIND F F ..    the record written into a buffer of that length, all nines, and the buffer then
 //
 // Empty lines and lines that begin with '#' are written as they are.
+#![tactic(auto)]
 mod show;
 mod writes;
 

@@ -58,7 +58,12 @@ module _ (p : ℕ → Bool) where
   up_to_first (x ∷ l) other =
       case_bool (p x)
       (λ t. rw (t, eqb_self x))
-      (λ f. rw f (case_bool (eqb x (first_of p l other)) (λ e. rw e) (λ e. rw e (and_both (not_is_true f) (up_to_first l other)))))
+      (λ f.
+      let k : first_of p l other ≡ first_of p (x ∷ l) other = rw f in
+      subst
+      (λ (y : ℕ). every_in (λ x. not (p x)) (up_to y (x ∷ l)) ≡ true)
+      k
+      (case_bool (eqb x (first_of p l other)) (λ e. rw e) (λ e. rw e (and_both (not_is_true f) (up_to_first l other)))))
 
 pub first_of_same : (p q : ℕ → Bool) (l : List ℕ) (other : ℕ) → ((x : ℕ) → holds x l ≡ true → p x ≡ q x) → first_of p l other ≡ first_of q l other
 unfolding first_of

@@ -1,5 +1,6 @@
 // Makes the calls of the scheduler many times, to be timed from outside: docs/PERFORMANCE.md. The argument says which call; with none,
 // each is made a few times.
+#![tactic(auto)]
 mod deaths;
 mod lanes;
 mod loads;

@@ -1,5 +1,6 @@
 // Reads, or writes, the records of a journal many times, to be timed from outside: docs/PERFORMANCE.md. The argument says which records,
 // `turns` or `jobs`, or `written-turns` or `written-jobs`; with none, each is done a few times.
+#![tactic(auto)]
 use check::same;
 use journal::{Read, Written};
 use libc::STDOUT_FILENO;

@@ -1,4 +1,5 @@
 // One record a line in, the journal's bytes out: docs/REPLAY.md, "Writing one". What a line says is written before the next line is waited for.
+#![tactic(auto)]
 ghost use Rattle.std.specs.Prelude.{◌≡◌, ◌+◌, ◌*◌, ◌≤◌, ◌<◌, length, take};
 ghost use Rattle.record.specs.Lines.{unblanked, name_line, job_line, pick_line, report_line, numbers_line, line_in, bytes_for, done_with, size_of, Done, recorded_as};
 

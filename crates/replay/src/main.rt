@@ -1,4 +1,5 @@
 // Replays the journal on standard input, and writes what that prints to standard output: docs/REPLAY.md.
+#![tactic(auto)]
 ghost use Rattle.std.specs.Prelude.{◌+◌, ◌*◌, ◌≤◌, ◌≡◌, length, take};
 ghost use Rattle.journal.specs.Journals.{journal_of};
 ghost use Rattle.replaying.specs.Replay.{replay_text};

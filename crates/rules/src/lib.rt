@@ -1,17 +1,18 @@
 // The types of document 01: the set-up, the state, the answers, all by value. The rules over them are in specs/.
+#![tactic(auto)]
 
 // The parts that stand for 1 (`U` of specs/Sizes.antt).
 pub const U: u64 = 23_279_256_000;
 
 // A feedback: percent, and its form, 0 flat, 1 per window or 2 by the square root.
-#[derive(Drop)]
+#[derive(Clone, Copy)]
 pub struct Feedback {
     pub percent: u64,
     pub form: u64,
 }
 
 // One transport's settings. Their ranges are `settings_in_range` of specs/Setup.antt.
-#[derive(Drop)]
+#[derive(Clone, Copy)]
 pub struct Settings {
     pub agents: u64,
     pub cost: u64,
@@ -27,7 +28,7 @@ pub struct Settings {
 }
 
 // What a site gives: how many transports, the settings of each, how many destinations, the transport of each.
-#[derive(Drop)]
+#[derive(Clone, Copy)]
 pub struct Setup {
     pub transports: u64,
     pub settings: [Settings; 4],
@@ -36,7 +37,7 @@ pub struct Setup {
 }
 
 // A live destination's window and its three sums, in parts of which U stand for 1.
-#[derive(Drop)]
+#[derive(Clone, Copy)]
 pub struct Sums {
     pub window: u64,
     pub success: u64,
@@ -45,26 +46,26 @@ pub struct Sums {
 }
 
 // Live, or dead with the second when that ends.
-#[derive(Drop)]
+#[derive(Clone, Copy)]
 pub enum Health {
     Live(Sums),
     Dead(u64),
 }
 
-#[derive(Drop)]
+#[derive(Clone, Copy)]
 pub struct Destination {
     pub health: Health,
 }
 
 // How many entries of each transport and of each destination are busy.
-#[derive(Drop)]
+#[derive(Clone, Copy)]
 pub struct Busy {
     pub transport: [u16; 4],
     pub destination: [u16; 32],
 }
 
 // Job numbers in an order: the first `count` places of `jobs`.
-#[derive(Drop)]
+#[derive(Clone, Copy)]
 pub struct JobList {
     pub jobs: [u8; 32],
     pub count: u8,
@@ -118,7 +119,7 @@ pub struct State {
     pub entries: Entries,
 }
 
-#[derive(Drop)]
+#[derive(Clone, Copy)]
 pub enum Outcome {
     Success,
     Failure,
@@ -126,7 +127,7 @@ pub enum Outcome {
 
 // Why a destination's number moved in the step of a report. Which case it is, and each case's number: specs/Windows.antt. The words stand in
 // lines/specs/Names.antt.
-#[derive(Drop)]
+#[derive(Clone, Copy)]
 pub enum Move {
     Unchanged,
     Raised,
@@ -136,7 +137,7 @@ pub enum Move {
 }
 
 // What that step answers: the destination's health after it, and why its number moved.
-#[derive(Drop)]
+#[derive(Clone, Copy)]
 pub struct StepAnswer {
     pub health: Health,
     pub moved: Move,
@@ -144,13 +145,13 @@ pub struct StepAnswer {
 
 // The answers. `Refused` holds the number of document 01's table.
 
-#[derive(Drop)]
+#[derive(Clone, Copy)]
 pub enum SetupAnswer {
     Refused(u8),
     Accepted,
 }
 
-#[derive(Drop)]
+#[derive(Clone, Copy)]
 pub enum JobAnswer {
     Refused(u8),
     Taken { job: u8, putoff: u16 },
@@ -158,7 +159,7 @@ pub enum JobAnswer {
     PutOff(u16),
 }
 
-#[derive(Drop)]
+#[derive(Clone, Copy)]
 pub enum PickAnswer {
     Refused(u8),
     Picked {
@@ -170,19 +171,19 @@ pub enum PickAnswer {
     Nothing,
 }
 
-#[derive(Drop)]
+#[derive(Clone, Copy)]
 pub enum ReportAnswer {
     Refused(u8),
     Reported { putoff: u16, moved: Move },
 }
 
-#[derive(Drop)]
+#[derive(Clone, Copy)]
 pub enum AskAnswer {
     Refused(u8),
     Overtakers(u32),
 }
 
-#[derive(Drop)]
+#[derive(Clone, Copy)]
 pub enum BoardAnswer {
     Refused(u8),
     Written(u64),

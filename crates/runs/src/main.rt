@@ -6,6 +6,7 @@
 //                     each place holds 999 before, each byte a '.'
 //
 // Empty lines and lines that begin with '#' are passed over.
+#![tactic(auto)]
 ghost use Rattle.std.specs.Prelude.{◌+◌, ◌*◌, ◌≤◌, length};
 
 use bytes::scan::find;

@@ -1,6 +1,7 @@
 // The scheduler that a relay links: its six calls, in the order of document 01, and `run`, which makes a list of them. Each takes any values whatever,
 // tests them itself, and gives back what the rules give for them (rules/specs/Calls.antt). A refused call hands the state back as it came and writes to no
 // buffer. That demand 3 holds of every list of calls: specs/Transcript.antt.
+#![tactic(auto)]
 
 // The state of a set-up.
 pub use startup::set_up;

@@ -1,4 +1,5 @@
 // A word, or a number's decimals, at the front of a lent buffer. The bytes past it stay.
+#![tactic(auto)]
 ghost use Rattle.std.specs.Prelude.{◌≡◌, ◌≤◌, length, ◌++◌};
 ghost use Rattle.laws.specs.Wrote.{Wrote};
 ghost use Rattle.rules.specs.Board.{decimal};
@@ -8,7 +9,9 @@ pub fn put(word: &[u8], buf: &mut [u8]) -> usize
     requires { length word.now ≤ length buf.old }
     ensures { Wrote word.now buf.old buf.new result }
 {
-    bytes::copy(word, buf)
+    let n = word.len();
+    buf[..n].copy_from_slice(word);
+    n
 }
 
 // Puts a number's decimals there.
