@@ -9,9 +9,7 @@ use Rattle.rules.specs.Sizes.{U}
 use Rattle.rules.specs.Setup.{within}
 use Rattle.rules.specs.Sound.{sums_fit}
 use Rattle.clauses.specs.Clauses.{health_test}
-use borrow.Author.Rules.{rules}
-use Rattle.clauses.proofs.destinations.health_right.Statement.{statement}
-use Rattle.clauses.proofs.destinations.health_right.Tie as tie
+use Rattle.clauses.proofs.destinations.health_right.Goals as goal
 
 -- the test as the code makes it
 live-is : (g : Settings) (u : Sums) (limit cohortlimit : ℕ) → g.limit ≡ limit → g.cohortlimit ≡ cohortlimit
@@ -19,22 +17,10 @@ live-is : (g : Settings) (u : Sums) (limit cohortlimit : ℕ) → g.limit ≡ li
 unfolding sums_fit within
 live-is g u limit cohortlimit l k = sym (rw (l, k))
 
-enum-known-h : tie.Need-enum-known-h
-enum-known-h c = search rules
-
-mul-result : tie.Need-overflow-mul-result
-mul-result c = search rules
-
-enum_told : tie.Need-enum-told
-enum_told c = search rules
-
-returns : tie.Need-returns
+pub returns-in-Live : goal.returns-in-Live
 unfolding health_test
-returns c = λ g l k. live-is g _ _ _ l k ∙ sym (ap (health_test g _) c.before.before.before.before.before.before.h.given.1)
+returns-in-Live c = λ g l k. live-is g _ _ _ l k ∙ sym (ap (health_test g _) c.in-Live.is)
 
-returns-2 : tie.Need-returns-2
+pub returns-in-Dead : goal.returns-in-Dead
 unfolding health_test
-returns-2 c = λ g l k. sym (ap (health_test g _) c.enum_told.given.1)
-
-pub health-right-spec : {M : Type 1} → statement M
-health-right-spec = tie.close (tie.spec enum-known-h mul-result enum_told returns returns-2)
+returns-in-Dead c = λ g l k. sym (ap (health_test g _) c.in-Dead.is)
