@@ -1,5 +1,6 @@
 // A word, or a number's decimals, at the front of a lent buffer. The bytes past it stay.
 #![tactic(auto)]
+
 ghost use Rattle.std.specs.Prelude.{◌≡◌, ◌≤◌, length, ◌++◌};
 ghost use Rattle.laws.specs.Wrote.{Wrote};
 ghost use Rattle.rules.specs.Board.{decimal};

@@ -26,7 +26,7 @@ put_decimal-at-requires c = rest_fits c.put-at.ensures (decimal _) c.requires
 pub overflow_add-at : goal.overflow_add-at
 overflow_add-at c =
     let b = c in
-    omega (arith, end_fits c.put-at.ensures c.put_decimal-at.ensures b.requires, b.good)
+    omega (arith, end_fits c.put-at.ensures c.put_decimal-at.ensures b.requires, b.well_formed)
 
 pub returns : goal.returns
 returns c = behind c.put-at.ensures c.put_decimal-at.ensures
