@@ -1,6 +1,7 @@
 // Document 01, "Picking and preemption": the entries that preempted a job are counted through the chain of parents. The walk that
 // "Language form for each place" asks for: recursive, from child to parent, the remaining depth of the chain falling.
 #![tactic(auto)]
+
 ghost use Rattle.std.specs.Prelude.{◌≡◌, true, suc, ◌+◌, min};
 ghost use Rattle.laws.specs.Chain.{along_chain};
 ghost use Rattle.rules.specs.State.{at};
