@@ -1,6 +1,7 @@
 // Document 02, A6: "a table of 1,000 numbers R, the greatest whole R with R·R·N ≤ U·U for N = 1 to 1,000". There is no memory but the stack for a
 // constant to stand in: what is read is first written there. So the table has two parts, by the width of its numbers, and only one of them is written.
 #![tactic(auto)]
+
 ghost use Rattle.std.specs.Prelude.{◌≡◌, ◌≤◌, ◌<◌};
 ghost use Rattle.rules.specs.Sizes.{max_window};
 ghost use Rattle.rules.specs.Windows.{root};
