@@ -72,14 +72,11 @@ module _ (x : ℕ) (l : 10 ≤ x) (h : x < 18_446_744_073_709_551_616) where
 
   -- the last digit, behind the others
   module _ {e m : List ℕ} {r : ℕ} (fits : length (decimal x) ≤ length e) (w : Wrote (decimal (x / 10)) e m r) where
-    pub put_same : length m ≡ length e
+    put_same : length m ≡ length e
     put_same = wrote_length w (omega (arith, put_fits fits))
 
     pub put_room : r < length m
     put_room = omega (arith, put_same, put_fits fits, w.count)
-
-    pub put_short : r < 20
-    put_short = omega (arith, w.count, digits_more x l h, decimal_length x)
 
     pub put_last : Wrote (decimal x) e (set m r (48 + x % 10)) (r + 1)
     put_last = rw (decimal_more x l h) (wrote_one (48 + x % 10) w (put_fits fits))
