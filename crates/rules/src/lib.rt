@@ -72,7 +72,7 @@ pub struct JobList {
 }
 
 // The jobs, a column a field.
-#[derive(Drop)]
+#[derive(Clone, Copy)]
 pub struct Jobs {
     pub present: [bool; 32],
     pub transport: [u8; 32],
@@ -93,7 +93,7 @@ pub struct Jobs {
 }
 
 // The entries, a column a field. Kind: 0 free, 1 waiting, 2 busy.
-#[derive(Drop)]
+#[derive(Clone, Copy)]
 pub struct Entries {
     pub kind: [u8; 512],
     pub job: [u8; 512],
@@ -101,7 +101,7 @@ pub struct Entries {
     pub ticket: [u32; 512],
 }
 
-#[derive(Drop)]
+#[derive(Clone, Copy)]
 pub struct State {
     pub setup: Setup,
     // the last accepted clock
