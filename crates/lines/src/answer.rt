@@ -7,8 +7,9 @@ ghost use Rattle.lines.specs.Names.{job_name, pick_name, report_name, board_name
 ghost use Rattle.lines.specs.Texts.{Put, counted, shown_byte, move_word, malformed_text, refused_text, setup_text, job_text, pick_text, report_text, ask_text, board_answer_text};
 
 use crate::text;
-use libc::STDOUT_FILENO;
 use rules::{AskAnswer, BoardAnswer, JobAnswer, Move, PickAnswer, ReportAnswer, SetupAnswer};
+use std::io;
+use std::io::Write;
 
 pub fn malformed(out: &mut [u8]) -> usize
     ensures { Put malformed_text out.old 0 out.new result }
@@ -143,11 +144,12 @@ fn shown_text(out: &mut [u8], n: u64, written: &[u8]) -> usize
     put_byte(out, at, 10)
 }
 
-// Writes the first n bytes to standard output.
-pub fn write(out: &[u8], n: usize) {
+// Writes the first n bytes.
+pub fn write<W: Write>(to: &mut W, out: &[u8], n: usize) -> io::Result<()> {
     if n <= out.len() {
-        io::write_all(STDOUT_FILENO, &out[..n]);
+        to.write_all(&out[..n])?;
     }
+    Ok(())
 }
 
 // Each of these puts something at a place and answers the next place. What would stand past the end is left out.
@@ -169,14 +171,15 @@ pub fn put(out: &mut [u8], at: usize, word: &[u8]) -> usize
         return at;
     }
     let n = text::at_most(word.len() as u64, out.len() - at);
-    at + bytes::copy(&word[..n], &mut out[at..])
+    out[at..at + n].copy_from_slice(&word[..n]);
+    at + n
 }
 
 pub fn put_decimal(out: &mut [u8], at: usize, x: u64) -> usize
     ensures { Put (decimal x) out.old at out.new result }
 {
     let mut digits = [0u8; 20];
-    let k = io::decimal(x, &mut digits);
+    let k = writing::put_number(b"", x, &mut digits);
     put(out, at, &digits[..k])
 }
 

@@ -1,10 +1,11 @@
-// Standard input, line by line, through a lent buffer. Lines end with byte 10; what stands behind the last of these is a line too. A line that
+// An input, line by line, through a lent buffer. Lines end with byte 10; what stands behind the last of these is a line too. A line that
 // the buffer has no room for is handed out as its end alone, and told apart.
-ghost use Rattle.std.specs.Prelude.{◌+◌, ◌≤◌, ◌<◌, ◌≡◌, length};
+ghost use Rattle.std.specs.Prelude.{◌+◌, ◌≤◌, ◌<◌, ◌≡◌, length, IfOk};
 
 use crate::text;
-use bytes::scan::find;
-use libc::STDIN_FILENO;
+use crate::text::find;
+use std::io;
+use std::io::Read;
 
 // A line, from `start` up to `end` of the buffer. Mode: 0 where it is whole; where its front is gone, 2 if that began with '#', else 1. It is
 // the last one where the input is over. What is read behind it goes from `next` up to `have`.
@@ -33,9 +34,9 @@ pub fn none() -> Line
 }
 
 // The line behind another. It turns at most 2^64 - 1 times, which no input uses up: a turn reads at least a byte.
-pub fn next_line(buffer: &mut [u8], last: Line) -> Line
+pub fn next_line<R: Read>(from: &mut R, buffer: &mut [u8], last: Line) -> io::Result<Line>
     requires { (0 < length buffer.old) × (last.next ≤ last.have) × (last.have ≤ length buffer.old) }
-    ensures { (result.start ≤ result.end) × (result.end < length buffer.new) × (result.next ≤ result.have) × (result.have ≤ length buffer.new) }
+    ensures { IfOk result (λ l. (l.start ≤ l.end) × (l.end < length buffer.new) × (l.next ≤ l.have) × (l.have ≤ length buffer.new)) }
 {
     let mut h = Held {
         start: last.next,
@@ -44,30 +45,28 @@ pub fn next_line(buffer: &mut [u8], last: Line) -> Line
     };
     // no place before this one holds a line end
     let mut seen = last.next;
-    let mut left: u64 = 18446744073709551615;
-    while 0 < left {
-        left -= 1;
+    for _ in 0..u64::MAX {
         let have = h.have;
         let end = find(buffer, seen, have, 10);
         if end < have {
-            return Line {
+            return Ok(Line {
                 start: h.start,
                 end: end,
                 mode: h.mode,
                 over: false,
                 next: end + 1,
                 have: have,
-            };
+            });
         }
         h = with_room(buffer, h);
         seen = h.have;
-        let got = read_more(buffer, seen);
+        let got = from.read(&mut buffer[seen..])?;
         if got == 0 {
-            return rest(h);
+            return Ok(rest(h));
         }
         h.have = seen + got;
     }
-    rest(nothing(0))
+    Ok(rest(nothing(0)))
 }
 
 // The bytes of a line that has not ended yet, from `start` up to `have`.
@@ -132,19 +131,4 @@ fn with_room(buffer: &mut [u8], h: Held) -> Held
         return nothing(2);
     }
     nothing(1)
-}
-
-// Reads behind the bytes that are there, and answers how many came: 0 at the end of the input.
-fn read_more(buffer: &mut [u8], have: usize) -> usize
-    requires { have ≤ length buffer.old }
-    ensures { have + result ≤ length buffer.new }
-{
-    read_into(&mut buffer[have..])
-}
-
-fn read_into(part: &mut [u8]) -> usize
-    ensures { result ≤ length part.new }
-{
-    let got = libc::read(STDIN_FILENO, part);
-    io::count(got, part)
 }

@@ -1,5 +1,6 @@
 // Lines of text: read from standard input, their words read as numbers and as a set-up, and an answer put into one.
 #![tactic(auto)]
+
 pub mod answer;
 pub mod input;
 pub mod setups;

@@ -1,9 +1,29 @@
 // Bytes of a line: blanks, and words read as numbers.
 ghost use Rattle.std.specs.Prelude.{◌+◌, ◌*◌, ◌-◌, ◌≤◌, min, ◌≡◌, ◌++◌, length, get_or, take, drop};
-ghost use Rattle.lines.specs.Words.{words_of, number_of};
-ghost use Rattle.lines.specs.Words.{FirstFrom, not_blank, Read};
+ghost use Rattle.lines.specs.Words.{words_of, same_bytes, number_of};
+ghost use Rattle.lines.specs.Words.{FirstFrom, is_byte, not_blank, Read};
 
-use bytes::scan::find;
+// The first place from `from` on and below `to` that holds the byte; `to` where there is none.
+pub fn find(s: &[u8], from: usize, to: usize, b: u8) -> usize
+    requires { (from ≤ to) × (to ≤ length s.now) }
+    ensures { FirstFrom (is_byte s.now b) from to result }
+{
+    let mut i = from;
+    while i < to {
+        if s[i] == b {
+            return i;
+        }
+        i += 1;
+    }
+    i
+}
+
+// Whether two words are the same bytes.
+pub fn same(a: &[u8], b: &[u8]) -> bool
+    ensures { result ≡ same_bytes a.now b.now }
+{
+    a == b
+}
 
 // The first place from `from` on that holds no blank; the length where there is none.
 pub fn skip_blanks(s: &[u8], from: usize) -> usize
