@@ -1,13 +1,13 @@
 // One line, read as a call and made. A line that is no call leaves the state as it is.
 #![tactic(auto)]
+
 ghost use Rattle.std.specs.Prelude.{◌*◌, ◌≤◌, ◌≡◌, length};
 ghost use Rattle.rules.specs.Calls.{outcome_of, setup_reply};
 ghost use Rattle.lines.specs.Texts.{Put, malformed_text};
 ghost use Rattle.calling.specs.Meaning.{setup_line, job_line, pick_line, report_line, ask_line, board_line, kind_of, call_line, meaning_of, state_on};
 ghost use Rattle.calling.specs.Replies.{start_text, text_on};
 
-use bytes::scan::find;
-use check::same;
+use lines::text::{find, same};
 use lines::{answer, setups, text};
 use rules::{Outcome, Setup, State};
 
