@@ -13,10 +13,8 @@
 //     kind E X, job E X, destination E X, stamp E X   of an entry; stamp is its ticket
 //
 // A place past the end stands for the last one.
-use bytes::scan::find;
-use check::same;
 use lines::text;
-use lines::text::word;
+use lines::text::{find, same, word};
 use rules::{
     Busy, Destination, Entries, Feedback, Health, JobList, Jobs, Settings, Setup, State, Sums,
 };

@@ -1,7 +1,7 @@
 // The buffers that are lent to a call: filled before it, shown after it.
 ghost use Rattle.std.specs.Prelude.{◌≤◌, length};
 
-use check::same;
+use lines::text::same;
 use lines::{answer, text};
 
 // Puts in what no call writes, so that a place that was written shows.

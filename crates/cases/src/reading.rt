@@ -1,10 +1,8 @@
 // How a line of cases is read: how often, which name, whether its words fit.
 ghost use Rattle.std.specs.Prelude.{◌≡◌, ◌≤◌, length};
 
-use bytes::scan::find;
-use check::same;
 use lines::text;
-use lines::text::Number;
+use lines::text::{Number, find, same};
 
 // How many times a line's call is made, and where the call begins.
 #[derive(Drop)]
