@@ -2,6 +2,7 @@
 // fields, any buffer, any number of bytes used. A refusal writes nothing: 14 for a field that the reader would refuse or of 2^32 and more,
 // tested first, then 10 for a record that does not fit. The answer is how many bytes are used now.
 #![tactic(auto)]
+
 mod parts;
 
 ghost use Rattle.std.specs.Prelude.{◌≡◌};

@@ -95,5 +95,7 @@ pub fn put_word(buffer: &mut [u8], at: usize, word: &[u8]) -> usize
     requires { at + length word.now ≤ length buffer.old }
     ensures { Stored word.now buffer.old at buffer.new result }
 {
-    at + bytes::copy(word, &mut buffer[at..])
+    let next = at + word.len();
+    buffer[at..next].copy_from_slice(word);
+    next
 }
