@@ -1,4 +1,4 @@
-// An input, line by line, through a lent buffer. Lines end with byte 10; what stands behind the last of these is a line too. A line that
+// An input, line by line or whole, through a lent buffer. Lines end with byte 10; what stands behind the last of these is a line too. A line that
 // the buffer has no room for is handed out as its end alone, and told apart.
 ghost use Rattle.std.specs.Prelude.{◌+◌, ◌≤◌, ◌<◌, ◌≡◌, length, IfOk};
 
@@ -67,6 +67,21 @@ pub fn next_line<R: Read>(from: &mut R, buffer: &mut [u8], last: Line) -> io::Re
         h.have = seen + got;
     }
     Ok(rest(nothing(0)))
+}
+
+// Reads the input up to its end, or until the buffer is full, and answers how many bytes came.
+pub fn read_whole<R: Read>(from: &mut R, buffer: &mut [u8]) -> io::Result<usize>
+    ensures { IfOk result (λ n. n ≤ length buffer.new) }
+{
+    let mut have: usize = 0;
+    while have < buffer.len() {
+        let got = from.read(&mut buffer[have..])?;
+        if got == 0 {
+            break;
+        }
+        have += got;
+    }
+    Ok(have)
 }
 
 // The bytes of a line that has not ended yet, from `start` up to `have`.
