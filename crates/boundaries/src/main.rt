@@ -22,17 +22,18 @@
 //
 // Empty lines and lines that begin with '#' are written as they are.
 #![tactic(auto)]
+
 mod searched;
 
 ghost use Rattle.std.specs.Prelude.{◌*◌, ◌≤◌, length};
 
-use bytes::scan::find;
 use calling::Reply;
 use cases::{bits, change, lent, reading};
-use check::same;
-use libc::{STDIN_FILENO, STDOUT_FILENO};
-use lines::{answer, text};
+use lines::text::{find, same};
+use lines::{answer, input, text};
 use rules::{Outcome, PickAnswer, State};
+use std::io;
+use std::io::{Read, Write};
 
 // The state, and the one that was kept.
 #[derive(Drop)]
@@ -41,7 +42,7 @@ struct Desk {
     kept: State,
 }
 
-fn main() {
+fn main(rt: HostRuntime) -> io::Result<()> {
     let mut cases_space = [0u8; 65536];
     let cases: &mut [u8] = &mut cases_space;
     // the most numbers that a line of so many bytes holds
@@ -54,13 +55,23 @@ fn main() {
     let written: &mut [u8] = &mut text_space;
     let mut out_space = [0u8; 8192];
     let out: &mut [u8] = &mut out_space;
-    run(cases, words, list, written, out);
+    let mut from = rt.reader();
+    let mut to = io::writer(&rt);
+    run(&mut from, &mut to, cases, words, list, written, out)
 }
 
-fn run(cases: &mut [u8], words: &mut [u64], list: &mut [u16], written: &mut [u8], out: &mut [u8])
+fn run<R: Read, W: Write>(
+    from: &mut R,
+    to: &mut W,
+    cases: &mut [u8],
+    words: &mut [u64],
+    list: &mut [u16],
+    written: &mut [u8],
+    out: &mut [u8],
+) -> io::Result<()>
     requires { length cases.old ≤ 2 * length words.old }
 {
-    let n = io::read_full(STDIN_FILENO, cases);
+    let n = input::read_whole(from, cases)?;
     let zeros = startup::zero();
     let mut desk = Desk {
         state: zeros,
@@ -71,54 +82,55 @@ fn run(cases: &mut [u8], words: &mut [u64], list: &mut [u16], written: &mut [u8]
         let start = at;
         let end = find(cases, start, n, 10);
         at = end + 1;
-        desk = step(&cases[start..end], words, list, written, out, desk);
+        desk = step(to, &cases[start..end], words, list, written, out, desk)?;
     }
+    Ok(())
 }
 
 // Writes a line, does what it says, and writes what came out.
-fn step(
+fn step<W: Write>(
+    to: &mut W,
     line: &[u8],
     words: &mut [u64],
     list: &mut [u16],
     written: &mut [u8],
     out: &mut [u8],
     desk: Desk,
-) -> Desk
+) -> io::Result<Desk>
     requires { length line.now ≤ 2 * length words.old }
 {
-    io::write_all(STDOUT_FILENO, line);
+    to.write_all(line)?;
     let s = desk.state;
     let kept = desk.kept;
     if same(line, b"keep") {
-        write_answer(out, 0);
-        return Desk { state: s, kept: s };
+        write_answer(to, out, 0)?;
+        return Ok(Desk { state: s, kept: s });
     }
     if same(line, b"back") {
-        write_answer(out, 0);
-        return Desk {
+        write_answer(to, out, 0)?;
+        return Ok(Desk {
             state: kept,
             kept: kept,
-        };
+        });
     }
     let c = reading::read_repeat(line);
     let start = c.start;
     let r = times(c.count, &line[start..], words, list, written, out, s);
-    write_answer(out, r.length);
+    write_answer(to, out, r.length)?;
     let next = r.state;
-    Desk {
+    Ok(Desk {
         state: next,
         kept: kept,
-    }
+    })
 }
 
 // An answer of n bytes, its line end among them; a line end where there is none.
-fn write_answer(out: &[u8], n: usize) {
+fn write_answer<W: Write>(to: &mut W, out: &[u8], n: usize) -> io::Result<()> {
     if n == 0 {
-        io::write_all(STDOUT_FILENO, b"\n");
-        return;
+        return to.write_all(b"\n");
     }
-    io::write_all(STDOUT_FILENO, b" -> ");
-    answer::write(out, n);
+    to.write_all(b" -> ")?;
+    answer::write(to, out, n)
 }
 
 fn times(
