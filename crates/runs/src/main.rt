@@ -7,14 +7,15 @@
 //
 // Empty lines and lines that begin with '#' are passed over.
 #![tactic(auto)]
+
 ghost use Rattle.std.specs.Prelude.{◌+◌, ◌*◌, ◌≤◌, length};
 
-use bytes::scan::find;
-use check::same;
-use libc::STDIN_FILENO;
-use lines::{answer, setups, text};
+use lines::text::{find, same};
+use lines::{answer, input, setups, text};
 use rules::Setup;
 use scheduler::{ROW, RunEnd};
+use std::io;
+use std::io::{Read, Write};
 
 // The set-up, and how many numbers of calls there are.
 #[derive(Drop)]
@@ -23,9 +24,9 @@ struct Desk {
     count: usize,
 }
 
-fn main() {
-    let mut input_space = [0u8; 16384];
-    let input: &mut [u8] = &mut input_space;
+fn main(rt: HostRuntime) -> io::Result<()> {
+    let mut cases_space = [0u8; 16384];
+    let cases: &mut [u8] = &mut cases_space;
     // the most numbers that a line of so many bytes holds
     let mut words_space = [0u64; 8192];
     let words: &mut [u64] = &mut words_space;
@@ -33,13 +34,22 @@ fn main() {
     let list: &mut [u64] = &mut calls_space;
     let mut out_space = [0u8; 1024];
     let out: &mut [u8] = &mut out_space;
-    read_lines(input, words, list, out);
+    let mut from = rt.reader();
+    let mut to = io::writer(&rt);
+    read_lines(&mut from, &mut to, cases, words, list, out)
 }
 
-fn read_lines(input: &mut [u8], words: &mut [u64], list: &mut [u64], out: &mut [u8])
-    requires { length input.old ≤ 2 * length words.old }
+fn read_lines<R: Read, W: Write>(
+    from: &mut R,
+    to: &mut W,
+    cases: &mut [u8],
+    words: &mut [u64],
+    list: &mut [u64],
+    out: &mut [u8],
+) -> io::Result<()>
+    requires { length cases.old ≤ 2 * length words.old }
 {
-    let n = io::read_full(STDIN_FILENO, input);
+    let n = input::read_whole(from, cases)?;
     let mut desk = Desk {
         setup: startup::zero_setup(),
         count: 0,
@@ -47,45 +57,53 @@ fn read_lines(input: &mut [u8], words: &mut [u64], list: &mut [u64], out: &mut [
     let mut at: usize = 0;
     while at < n {
         let start = at;
-        let end = find(input, start, n, 10);
+        let end = find(cases, start, n, 10);
         at = end + 1;
-        desk = step(&input[start..end], words, list, out, desk);
+        desk = step(to, &cases[start..end], words, list, out, desk)?;
     }
+    Ok(())
 }
 
 // Does what a line says.
-fn step(line: &[u8], words: &mut [u64], list: &mut [u64], out: &mut [u8], desk: Desk) -> Desk
+fn step<W: Write>(
+    to: &mut W,
+    line: &[u8],
+    words: &mut [u64],
+    list: &mut [u64],
+    out: &mut [u8],
+    desk: Desk,
+) -> io::Result<Desk>
     requires { length line.now ≤ 2 * length words.old }
 {
     let u = desk.setup;
     let n = line.len();
     let at = text::skip_blanks(line, 0);
     if n <= at {
-        return desk;
+        return Ok(desk);
     }
     if line[at] == 35 {
-        return desk;
+        return Ok(desk);
     }
     let end = find(line, at, n, 32);
     let name = &line[at..end];
     if same(name, b"setup") {
         let k = numbers(line, end, words);
-        return Desk {
+        return Ok(Desk {
             setup: read_setup(&words[..k]),
             count: 0,
-        };
+        });
     }
     if same(name, b"run") {
         let k = numbers(line, end, words);
         let count = text::at_most(desk.count as u64, list.len());
-        run(u, &list[..count], &words[..k], out);
-        return Desk { setup: u, count: 0 };
+        run(to, u, &list[..count], &words[..k], out)?;
+        return Ok(Desk { setup: u, count: 0 });
     }
     let k = numbers(line, at, words);
-    Desk {
+    Ok(Desk {
         setup: u,
         count: append(&words[..k], list, desk.count),
-    }
+    })
 }
 
 // The set-up of these numbers; one of all zeros, which is refused, where they are not as many as it announces.
@@ -126,7 +144,13 @@ fn put_word(list: &mut [u64], at: usize, x: u64) -> usize {
 }
 
 // Runs the calls, and writes each answer, each place of a list that was written, the texts, and the end.
-fn run(u: Setup, list: &[u64], rooms: &[u64], out: &mut [u8]) {
+fn run<W: Write>(
+    to: &mut W,
+    u: Setup,
+    list: &[u64],
+    rooms: &[u64],
+    out: &mut [u8],
+) -> io::Result<()> {
     let mut answers_space = [999u64; 512];
     let answers: &mut [u64] = &mut answers_space;
     let mut lists_space = [999u16; 8192];
@@ -137,26 +161,27 @@ fn run(u: Setup, list: &[u64], rooms: &[u64], out: &mut [u8]) {
     let l = text::at_most(text::word(rooms, 1), lists.len());
     let t = text::at_most(text::word(rooms, 2), texts.len());
     let r = scheduler::run(u, list, &mut answers[..a], &mut lists[..l], &mut texts[..t]);
-    show_answers(answers, out);
-    show_lists(lists, out);
-    show_texts(texts, t, out);
+    show_answers(to, answers, out)?;
+    show_lists(to, lists, out)?;
+    show_texts(to, texts, t, out)?;
     let end = r.end;
-    show_end(r.calls, end, out);
+    show_end(to, r.calls, end, out)
 }
 
 // An answer a line, as far as they were written.
-fn show_answers(answers: &[u64], out: &mut [u8]) {
+fn show_answers<W: Write>(to: &mut W, answers: &[u64], out: &mut [u8]) -> io::Result<()> {
     let mut at: usize = 0;
     while at + ROW <= answers.len() {
         if answers[at] == 999 {
-            return;
+            return Ok(());
         }
-        show_row(at, &answers[at..at + ROW], out);
+        show_row(to, at, &answers[at..at + ROW], out)?;
         at += ROW;
     }
+    Ok(())
 }
 
-fn show_row(at: usize, row: &[u64], out: &mut [u8]) {
+fn show_row<W: Write>(to: &mut W, at: usize, row: &[u64], out: &mut [u8]) -> io::Result<()> {
     let mut p = answer::put(out, 0, b"answer");
     p = answer::put_number(out, p, (at as u64) / (ROW as u64));
     p = answer::put_byte(out, p, 58);
@@ -166,43 +191,44 @@ fn show_row(at: usize, row: &[u64], out: &mut [u8]) {
         i += 1;
     }
     p = answer::put_byte(out, p, 10);
-    answer::write(out, p);
+    answer::write(to, out, p)
 }
 
-fn show_lists(lists: &[u16], out: &mut [u8]) {
+fn show_lists<W: Write>(to: &mut W, lists: &[u16], out: &mut [u8]) -> io::Result<()> {
     let mut i: usize = 0;
     while i < lists.len() {
-        show_place(i as u64, answer::wide(lists[i]), out);
+        show_place(to, i as u64, answer::wide(lists[i]), out)?;
         i += 1;
     }
+    Ok(())
 }
 
 // A place that was written.
-fn show_place(i: u64, x: u64, out: &mut [u8]) {
+fn show_place<W: Write>(to: &mut W, i: u64, x: u64, out: &mut [u8]) -> io::Result<()> {
     if x == 999 {
-        return;
+        return Ok(());
     }
     let mut p = answer::put(out, 0, b"list");
     p = answer::put_number(out, p, i);
     p = answer::put_byte(out, p, 58);
     p = answer::put_number(out, p, x);
     p = answer::put_byte(out, p, 10);
-    answer::write(out, p);
+    answer::write(to, out, p)
 }
 
-fn show_texts(texts: &[u8], n: usize, out: &mut [u8]) {
+fn show_texts<W: Write>(to: &mut W, texts: &[u8], n: usize, out: &mut [u8]) -> io::Result<()> {
     let mut p = answer::put(out, 0, b"texts ");
     p = answer::put_text(out, p, n as u64, texts);
     p = answer::put_byte(out, p, 10);
-    answer::write(out, p);
+    answer::write(to, out, p)
 }
 
-fn show_end(made: u64, end: RunEnd, out: &mut [u8]) {
+fn show_end<W: Write>(to: &mut W, made: u64, end: RunEnd, out: &mut [u8]) -> io::Result<()> {
     let mut p = answer::put(out, 0, b"ran");
     p = answer::put_number(out, p, made);
     p = put_end(out, p, end);
     p = answer::put_byte(out, p, 10);
-    answer::write(out, p);
+    answer::write(to, out, p)
 }
 
 fn put_end(out: &mut [u8], at: usize, end: RunEnd) -> usize {
