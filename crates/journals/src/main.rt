@@ -7,17 +7,18 @@
 //
 // Empty lines and lines that begin with '#' are written as they are.
 #![tactic(auto)]
+
 mod show;
 mod writes;
 
 ghost use Rattle.std.specs.Prelude.{◌*◌, ◌≤◌, length};
 
-use bytes::scan::find;
-use check::same;
-use libc::{STDIN_FILENO, STDOUT_FILENO};
-use lines::{answer, text};
+use lines::text::{find, same};
+use lines::{answer, input, text};
+use std::io;
+use std::io::{Read, Write};
 
-fn main() {
+fn main(rt: HostRuntime) -> io::Result<()> {
     let mut cases_space = [0u8; 20480];
     let cases: &mut [u8] = &mut cases_space;
     // the most numbers that a line of so many bytes holds
@@ -27,39 +28,54 @@ fn main() {
     let journal: &mut [u8] = &mut journal_space;
     let mut out_space = [0u8; 4096];
     let out: &mut [u8] = &mut out_space;
-    run(cases, words, journal, out);
+    let mut from = rt.reader();
+    let mut to = io::writer(&rt);
+    run(&mut from, &mut to, cases, words, journal, out)
 }
 
-fn run(cases: &mut [u8], words: &mut [u64], journal: &mut [u8], out: &mut [u8])
+fn run<R: Read, W: Write>(
+    from: &mut R,
+    to: &mut W,
+    cases: &mut [u8],
+    words: &mut [u64],
+    journal: &mut [u8],
+    out: &mut [u8],
+) -> io::Result<()>
     requires { length cases.old ≤ 2 * length words.old }
 {
-    let n = io::read_full(STDIN_FILENO, cases);
+    let n = input::read_whole(from, cases)?;
     let mut at: usize = 0;
     while at < n {
         let start = at;
         let end = find(cases, start, n, 10);
         at = end + 1;
-        step(&cases[start..end], words, journal, out);
+        step(to, &cases[start..end], words, journal, out)?;
     }
+    Ok(())
 }
 
 // Writes a line, does what it says, and writes what came out.
-fn step(line: &[u8], words: &mut [u64], journal: &mut [u8], out: &mut [u8])
+fn step<W: Write>(
+    to: &mut W,
+    line: &[u8],
+    words: &mut [u64],
+    journal: &mut [u8],
+    out: &mut [u8],
+) -> io::Result<()>
     requires { length line.now ≤ 2 * length words.old }
 {
-    io::write_all(STDOUT_FILENO, line);
+    to.write_all(line)?;
     let n = line.len();
     let at = text::skip_blanks(line, 0);
     let end = find(line, at, n, 32);
     let got = text::read_numbers(line, end, words);
     let k = got.count;
     if k == 0 {
-        io::write_all(STDOUT_FILENO, b"\n");
-        return;
+        return to.write_all(b"\n");
     }
-    io::write_all(STDOUT_FILENO, b" -> ");
+    to.write_all(b" -> ")?;
     let length = told(&line[at..end], &words[..k], journal, out);
-    answer::write(out, length);
+    answer::write(to, out, length)
 }
 
 // What a line of that name says of these numbers.
