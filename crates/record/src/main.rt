@@ -1,14 +1,14 @@
 // One record a line in, the journal's bytes out: docs/REPLAY.md, "Writing one". What a line says is written before the next line is waited for.
 #![tactic(auto)]
+
 ghost use Rattle.std.specs.Prelude.{◌≡◌, ◌+◌, ◌*◌, ◌≤◌, ◌<◌, length, take};
 ghost use Rattle.record.specs.Lines.{unblanked, name_line, job_line, pick_line, report_line, numbers_line, line_in, bytes_for, done_with, size_of, Done, recorded_as};
 
-use bytes::scan::find;
-use check::same;
 use journal::Written;
-use libc::STDERR_FILENO;
-use lines::text::Number;
+use lines::text::{Number, find, same};
 use lines::{answer, input, text};
+use std::io;
+use std::io::{Eprint, Read, Write};
 
 // What is done with a line: nothing; it says no record; the writer refuses it; or so many bytes are written.
 #[derive(Drop)]
@@ -19,35 +19,49 @@ enum Recorded {
     Bytes(usize),
 }
 
-fn main() {
+fn main(rt: HostRuntime) -> io::Result<()> {
     // the longest line and its end, and the most numbers that it holds
     let mut line_space = [0u8; 65537];
     let line: &mut [u8] = &mut line_space;
     let mut words_space = [0u64; 32768];
     let words: &mut [u64] = &mut words_space;
-    run(line, words);
+    let mut from = rt.reader();
+    let mut to = io::writer(&rt);
+    run(&mut from, &mut to, &rt, line, words)
 }
 
 // Line after line until the input ends, each with its number from 1.
-fn run(line: &mut [u8], words: &mut [u64])
+fn run<R: Read, W: Write, E: Eprint>(
+    from: &mut R,
+    to: &mut W,
+    errors: &E,
+    line: &mut [u8],
+    words: &mut [u64],
+) -> io::Result<()>
     requires { (0 < length line.old) × (length line.old ≤ 2 * length words.old + 1) }
 {
     let mut l = input::none();
-    let mut number: u64 = 0;
-    while number < 18446744073709551615 {
-        number += 1;
-        l = input::next_line(line, l);
+    for before in 0..u64::MAX {
+        l = input::next_line(from, line, l)?;
         let start = l.start;
         let end = l.end;
-        record(&line[start..end], words, l.mode, number);
+        record(to, errors, &line[start..end], words, l.mode, before + 1)?;
         if l.over {
-            return;
+            return Ok(());
         }
     }
+    Ok(())
 }
 
-// Writes what a line says to standard output, or tells of it on standard error.
-fn record(line: &[u8], words: &mut [u64], mode: u8, number: u64)
+// Writes what a line says, or tells of it on standard error.
+fn record<W: Write, E: Eprint>(
+    to: &mut W,
+    errors: &E,
+    line: &[u8],
+    words: &mut [u64],
+    mode: u8,
+    number: u64,
+) -> io::Result<()>
     requires { length line.now ≤ 2 * length words.old }
 {
     // room for every record: five groups for each of 260 numbers
@@ -55,27 +69,10 @@ fn record(line: &[u8], words: &mut [u64], mode: u8, number: u64)
     let out: &mut [u8] = &mut out_space;
     let r = written(line, words, mode, out);
     match r {
-        Recorded::Nothing => {}
-        Recorded::NoRecord => tell(number, b": no record", 0),
-        Recorded::Refused(k) => tell(number, b": refused", k),
-        Recorded::Bytes(n) => answer::write(out, n),
-    }
-}
-
-// Tells of a line on standard error.
-fn tell(number: u64, what: &[u8], k: u8) {
-    let mut space = [0u8; 64];
-    let out: &mut [u8] = &mut space;
-    let mut at = answer::put(out, 0, b"line");
-    at = answer::put_number(out, at, number);
-    at = answer::put(out, at, what);
-    if k != 0 {
-        at = answer::put_number(out, at, k as u64);
-    }
-    at = answer::put_byte(out, at, 10);
-    let told = &out[..];
-    if at <= told.len() {
-        io::write_all(STDERR_FILENO, &told[0..at]);
+        Recorded::Nothing => Ok(()),
+        Recorded::NoRecord => eprintln!(errors; "line {number}: no record"),
+        Recorded::Refused(k) => eprintln!(errors; "line {number}: refused {k}"),
+        Recorded::Bytes(n) => answer::write(to, out, n),
     }
 }
 
