@@ -1,20 +1,26 @@
 // Replays the journal on standard input, and writes what that prints to standard output: docs/REPLAY.md.
 #![tactic(auto)]
+
 ghost use Rattle.std.specs.Prelude.{◌+◌, ◌*◌, ◌≤◌, ◌≡◌, length, take};
 ghost use Rattle.journal.specs.Journals.{journal_of};
 ghost use Rattle.replaying.specs.Replay.{replay_text};
 ghost use Rattle.replay.specs.Budget.{is_decimal, budget_of};
 
-use libc::{STDERR_FILENO, STDIN_FILENO};
 use lines::text::Number;
-use lines::{answer, text};
+use lines::{answer, input, text};
+use std::env::{Env, FillError};
+use std::io;
+use std::io::{Eprint, Read, Write};
 
-fn main() {
+fn main(rt: HostRuntime) -> io::Result<()> {
     let mut journal_space = journal_zeros();
     let journal: &mut [u8] = &mut journal_space;
     let mut out_space = text_zeros();
     let out: &mut [u8] = &mut out_space;
-    run(journal, out);
+    let budget = asked(&rt)?;
+    let mut from = rt.reader();
+    let mut to = io::writer(&rt);
+    run(&mut from, &mut to, budget, journal, out)
 }
 
 // Room for the longest journal that is read, and for the longest text of one. The contracts give the length alone, which is what lending
@@ -32,14 +38,20 @@ fn text_zeros() -> [u8; 1314816]
     [0; 1314816]
 }
 
-fn run(journal: &mut [u8], out: &mut [u8])
+// Replays the journal that is read, and writes what that prints.
+fn run<R: Read, W: Write>(
+    from: &mut R,
+    to: &mut W,
+    budget: u64,
+    journal: &mut [u8],
+    out: &mut [u8],
+) -> io::Result<()>
     requires { 5 * length journal.old + 4096 ≤ length out.old }
 {
-    let budget = asked();
-    let n = io::read_full(STDIN_FILENO, journal);
+    let n = input::read_whole(from, journal)?;
     let read = &journal[..];
     let length = text_of(&read[..n], budget, out);
-    answer::write(out, length);
+    answer::write(to, out, length)
 }
 
 // Puts the text of a replay at the start of a buffer that has room for it, and answers its length.
@@ -51,25 +63,27 @@ fn text_of(journal: &[u8], budget: u64, out: &mut [u8]) -> usize
     r.length
 }
 
-// The budget that the first argument asks for; all records where there is none. An argument has at most 131,071 bytes.
-fn asked() -> u64 {
-    if os::arg_count() < 2 {
-        return all();
-    }
+// The budget that the first argument asks for; all records where there is none. An argument has at most 131,071 bytes. One that is no number is
+// told of on standard error.
+fn asked<E: Env + Eprint>(rt: &E) -> io::Result<u64> {
     let mut space = [0u8; 131072];
-    let n = os::arg(1, &mut space);
-    budget_of(&space[..n])
+    let n = match rt.arg(1, &mut space) {
+        Ok(n) => n,
+        Err(FillError::NotPresent) => return Ok(all()),
+        Err(FillError::TooLong) => 0,
+    };
+    let word = &space[..n];
+    if !is_decimal(word) {
+        eprintln!(rt; "replay: the first argument is not a number of records; all are replayed")?;
+    }
+    Ok(budget_of(word))
 }
 
-// The budget of a word. One that is no number is told of on standard error.
+// The budget of a word; all records where it is no number.
 fn budget_of(word: &[u8]) -> u64
     ensures { result ≡ budget_of word.now }
 {
     if !is_decimal(word) {
-        io::write_all(
-            STDERR_FILENO,
-            b"replay: the first argument is not a number of records; all are replayed\n",
-        );
         return all();
     }
     let number = text::read_number(word);
