@@ -1,20 +1,23 @@
 // Reads, or writes, the records of a journal many times, to be timed from outside: docs/PERFORMANCE.md. The argument says which records,
 // `turns` or `jobs`, or `written-turns` or `written-jobs`; with none, each is done a few times.
 #![tactic(auto)]
-use check::same;
+
+ghost use Rattle.std.specs.Prelude.{◌≤◌, length};
+
 use journal::{Read, Written};
-use libc::STDOUT_FILENO;
 use reader::read_at;
+use std::env::Env;
+use std::io;
 use writer::{write_job, write_pick, write_report};
 
-fn main() {
+fn main(rt: HostRuntime) -> io::Result<()> {
     // a pick and a report, with numbers of one and of two groups; a job of four entries
     let turns = [2u8, 144, 78, 3, 144, 78, 5, 133, 1, 0];
     let jobs = [1u8, 144, 78, 3, 4, 24, 28, 25, 29];
     let mut room = [0u8; 4096];
     let buffer: &mut [u8] = &mut room;
     let mut space = [0u8; 16];
-    let n = os::arg(1, &mut space);
+    let n = first_argument(&rt, &mut space);
     // what is written, by numbers of one and of two groups too, hangs on the argument, so that none of it is known before
     let seed = 8192 + (n % 16) as u32;
     let entries = [
@@ -24,31 +27,40 @@ fn main() {
         wide(space[3]),
     ];
     if n == 0 {
-        say(reads(&turns, 2) as u64);
-        say(reads(&jobs, 1) as u64);
-        say(write_turns(buffer, 1, seed, entries[0]) as u64);
-        say(write_jobs(buffer, 1, seed, &entries) as u64);
-        return;
+        say(&rt, reads(&turns, 2) as u64)?;
+        say(&rt, reads(&jobs, 1) as u64)?;
+        say(&rt, write_turns(buffer, 1, seed, entries[0]) as u64)?;
+        return say(&rt, write_jobs(buffer, 1, seed, &entries) as u64);
     }
-    if same(&space[..n], b"turns") {
-        say(reads(&turns, 10_000_000) as u64);
+    let name = &space[..n];
+    if name == b"turns".as_slice() {
+        say(&rt, reads(&turns, 10_000_000) as u64)?;
     }
-    if same(&space[..n], b"jobs") {
-        say(reads(&jobs, 10_000_000) as u64);
+    if name == b"jobs".as_slice() {
+        say(&rt, reads(&jobs, 10_000_000) as u64)?;
     }
-    if same(&space[..n], b"written-turns") {
-        say(write_turns(buffer, 5_000_000, seed, entries[0]) as u64);
+    if name == b"written-turns".as_slice() {
+        say(&rt, write_turns(buffer, 5_000_000, seed, entries[0]) as u64)?;
     }
-    if same(&space[..n], b"written-jobs") {
-        say(write_jobs(buffer, 10_000_000, seed, &entries) as u64);
+    if name == b"written-jobs".as_slice() {
+        say(&rt, write_jobs(buffer, 10_000_000, seed, &entries) as u64)?;
     }
     // what was written is looked at
-    io::write_all(STDOUT_FILENO, buffer);
+    rt.write_all(buffer)
 }
 
-fn say(n: u64) {
-    io::print_decimal(STDOUT_FILENO, n);
-    io::write_all(STDOUT_FILENO, b"\n");
+// Puts the first argument at the front of the buffer, and answers its length; 0 where there is none, or one that is longer than the buffer.
+fn first_argument<E: Env>(rt: &E, space: &mut [u8]) -> usize
+    ensures { result ≤ length space.new }
+{
+    match rt.arg(1, space) {
+        Ok(n) => n,
+        Err(_) => 0,
+    }
+}
+
+fn say<P: Print>(rt: &P, n: u64) -> io::Result<()> {
+    println!(rt; "{n}")
 }
 
 // Reads record after record of a journal, and again from the first. Answers how many were whole with no fifth destination.
