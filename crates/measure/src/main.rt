@@ -1,78 +1,90 @@
 // Makes the calls of the scheduler many times, to be timed from outside: docs/PERFORMANCE.md. The argument says which call; with none,
 // each is made a few times.
 #![tactic(auto)]
+
+ghost use Rattle.std.specs.Prelude.{◌≤◌, length};
+
 mod deaths;
 mod lanes;
 mod loads;
 mod scene;
 
-use libc::STDOUT_FILENO;
+use std::env::Env;
+use std::io;
 
-fn main() {
+fn main(rt: HostRuntime) -> io::Result<()> {
     let mut space = [0u8; 16];
-    let n = os::arg(1, &mut space);
+    let n = first_argument(&rt, &mut space);
     if n == 0 {
-        show_scene();
-        say(b"sound ", loads::sound(64));
-        say(b"pick ", loads::pick(16));
-        say(b"lane ", lanes::lane(16));
-        say(b"crowd ", lanes::crowd(16));
-        say(b"report ", loads::report(16));
-        say(b"death ", deaths::death(1));
-        say(b"turn ", loads::turn(216));
-        say(b"job ", loads::job(1));
-        say(b"ask ", loads::ask(32));
-        say(b"board ", loads::board(1));
-        return;
+        show_scene(&rt)?;
+        say(&rt, "sound", loads::sound(64))?;
+        say(&rt, "pick", loads::pick(16))?;
+        say(&rt, "lane", lanes::lane(16))?;
+        say(&rt, "crowd", lanes::crowd(16))?;
+        say(&rt, "report", loads::report(16))?;
+        say(&rt, "death", deaths::death(1))?;
+        say(&rt, "turn", loads::turn(216))?;
+        say(&rt, "job", loads::job(1))?;
+        say(&rt, "ask", loads::ask(32))?;
+        return say(&rt, "board", loads::board(1));
     }
-    measure(&space[..n]);
+    measure(&rt, &space[..n])
+}
+
+// Puts the first argument at the front of the buffer, and answers its length; 0 where there is none, or one that is longer than the buffer.
+fn first_argument<E: Env>(rt: &E, space: &mut [u8]) -> usize
+    ensures { result ≤ length space.new }
+{
+    match rt.arg(1, space) {
+        Ok(n) => n,
+        Err(_) => 0,
+    }
 }
 
 // 100,000 calls of a name; of any other name none.
-fn measure(name: &[u8]) {
+fn measure<P: Print>(rt: &P, name: &[u8]) -> io::Result<()> {
     let rounds: u32 = 100_000;
-    if check::same(name, b"sound") {
-        say(b"sound ", loads::sound(rounds));
+    if name == b"sound".as_slice() {
+        say(rt, "sound", loads::sound(rounds))?;
     }
-    if check::same(name, b"pick") {
-        say(b"pick ", loads::pick(rounds / 4));
+    if name == b"pick".as_slice() {
+        say(rt, "pick", loads::pick(rounds / 4))?;
     }
-    if check::same(name, b"lane") {
-        say(b"lane ", lanes::lane(rounds / 4));
+    if name == b"lane".as_slice() {
+        say(rt, "lane", lanes::lane(rounds / 4))?;
     }
-    if check::same(name, b"crowd") {
-        say(b"crowd ", lanes::crowd(rounds / 4));
+    if name == b"crowd".as_slice() {
+        say(rt, "crowd", lanes::crowd(rounds / 4))?;
     }
-    if check::same(name, b"report") {
-        say(b"report ", loads::report(rounds / 4));
+    if name == b"report".as_slice() {
+        say(rt, "report", loads::report(rounds / 4))?;
     }
-    if check::same(name, b"death") {
-        say(b"death ", deaths::death(rounds));
+    if name == b"death".as_slice() {
+        say(rt, "death", deaths::death(rounds))?;
     }
-    if check::same(name, b"turn") {
-        say(b"turn ", loads::turn(rounds));
+    if name == b"turn".as_slice() {
+        say(rt, "turn", loads::turn(rounds))?;
     }
-    if check::same(name, b"job") {
-        say(b"job ", loads::job(rounds));
+    if name == b"job".as_slice() {
+        say(rt, "job", loads::job(rounds))?;
     }
-    if check::same(name, b"ask") {
-        say(b"ask ", loads::ask(rounds));
+    if name == b"ask".as_slice() {
+        say(rt, "ask", loads::ask(rounds))?;
     }
-    if check::same(name, b"board") {
-        say(b"board ", loads::board(rounds));
+    if name == b"board".as_slice() {
+        say(rt, "board", loads::board(rounds))?;
     }
+    Ok(())
 }
 
 // A word and a number.
-fn say(word: &[u8], n: u32) {
-    io::write_all(STDOUT_FILENO, word);
-    io::print_decimal(STDOUT_FILENO, n as u64);
-    io::write_all(STDOUT_FILENO, b"\n");
+fn say<P: Print>(rt: &P, word: &str, n: u32) -> io::Result<()> {
+    println!(rt; "{word} {n}")
 }
 
 // The board of the scene: windows of 4, of which half are full.
-fn show_scene() {
+fn show_scene<P: Print>(rt: &P) -> io::Result<()> {
     let mut text = [0u8; 1024];
     let n = loads::scene_text(&mut text);
-    io::write_all(STDOUT_FILENO, &text[..n]);
+    rt.write_all(&text[..n])
 }
