@@ -20,7 +20,7 @@ pub bounds-list-m : goal.bounds-list-m
 bounds-list-m c =
     let turn = c.loop-i in
     let start = c in
-    omega (arith, parting_found turn.invariant, parting_length turn.invariant start.requires.1.1)
+    omega (arith, parting_found turn.invariant, parting_length turn.invariant start.requires.dests_len_bound.1)
 
 pub overflow_add-m : goal.overflow_add-m
 overflow_add-m c = omega (arith, parting_found c.loop-i.invariant)
@@ -29,7 +29,7 @@ pub overflow_cast-kept : goal.overflow_cast-kept
 overflow_cast-kept c =
     let turn = c.loop-i in
     let start = c in
-    omega (arith, start.requires.0 turn.i c.loop-i-test.true)
+    omega (arith, start.requires.by_index turn.i c.loop-i-test.true)
 
 pub bounds-kept-n : goal.bounds-kept-n
 bounds-kept-n c = omega (arith, parting_count c.loop-i.invariant)
@@ -42,8 +42,8 @@ loop-i-preserved c =
     let turn = c.loop-i in
     let start = c in
     elim c.if-dead-k.branch [
-      then-dead-k w ↦ parting_dead turn.invariant c.loop-i-test.true start.requires.1.0 start.requires.1.1 w.if-dead-k.true w.list-is w.kept-is w.n-is w.m-is
-    | else-dead-k w ↦ parting_live turn.invariant c.loop-i-test.true start.requires.1.0 start.requires.1.1 w.if-dead-k.false w.list-is w.kept-is w.n-is w.m-is
+      then-dead-k w ↦ parting_dead turn.invariant c.loop-i-test.true start.requires.dests_len_bound.0 start.requires.dests_len_bound.1 w.if-dead-k.true w.list-is w.kept-is w.n-is w.m-is
+    | else-dead-k w ↦ parting_live turn.invariant c.loop-i-test.true start.requires.dests_len_bound.0 start.requires.dests_len_bound.1 w.if-dead-k.false w.list-is w.kept-is w.n-is w.m-is
     ]
 
 pub overflow_cast-result : goal.overflow_cast-result
