@@ -45,7 +45,8 @@ turn-there c =
 
 pub returns-then-not-in_range : goal.returns-then-not-in_range
 returns-then-not-in_range c =
-    answers_no c.args.s (part_range c.args.s) c.in_range.ensures c.if-not-in_range.true (refl, c.requires)
+    let r = answers_no c.args.s (part_range c.args.s) c.in_range.ensures c.if-not-in_range.true (refl, c.requires) in
+    record { answer = r.0; pairs = r.1 }
 
 pub returns-then-transports-wide : goal.returns-then-transports-wide
 returns-then-transports-wide c = record {
@@ -63,7 +64,8 @@ pub returns-then-not-mark_orders : goal.returns-then-not-mark_orders
 returns-then-not-mark_orders c =
     let o = c in
     let s = o in
-    answers_no s.args.s (part_orders s.args.s) o.mark_orders.ensures.right c.if-not-mark_orders.true (refl, s.requires)
+    let r = answers_no s.args.s (part_orders s.args.s) o.mark_orders.ensures.right c.if-not-mark_orders.true (refl, s.requires) in
+    record { answer = r.0; pairs = r.1 }
 
 pub count_entries-counted-requires : goal.count_entries-counted-requires
 count_entries-counted-requires c =
@@ -80,8 +82,9 @@ pub returns-then-not-counted : goal.returns-then-not-counted
 returns-then-not-counted c =
     let k = c in
     let o = k in
-    answers_no o.args.s (part_entries o.args.s (shape (goal.at.returns-then-not-counted o).Start) _ (o.mark_orders.ensures.marks (ordered (goal.at.returns-then-not-counted o).Else-not-mark_orders))) k.count_entries-counted.ensures.counts.right
-    (not-true _ c.if-not-counted.true) (refl, k.count_entries-counted.ensures.pairs.none (not-true _ c.if-not-counted.true))
+    let r = answers_no o.args.s (part_entries o.args.s (shape (goal.at.returns-then-not-counted o).Start) _ (o.mark_orders.ensures.marks (ordered (goal.at.returns-then-not-counted o).Else-not-mark_orders))) k.count_entries-counted.ensures.counts.right
+    (not-true _ c.if-not-counted.true) (refl, k.count_entries-counted.ensures.pairs.none (not-true _ c.if-not-counted.true)) in
+    record { answer = r.0; pairs = r.1 }
 
 pub agree-requires : goal.agree-requires
 agree-requires c =
@@ -92,8 +95,9 @@ pub returns-then-not-agree : goal.returns-then-not-agree
 returns-then-not-agree c =
     let a = c in
     let k = a in
-    answers_no k.args.s (part_on k.args.s _ k.count_entries-counted.result (k.count_entries-counted.ensures.counts.tables (all-good (goal.at.returns-then-not-agree k).Else-not-counted)))
-    a.agree.ensures c.if-not-agree.true c.unsound.ensures
+    let r = answers_no k.args.s (part_on k.args.s _ k.count_entries-counted.result (k.count_entries-counted.ensures.counts.tables (all-good (goal.at.returns-then-not-agree k).Else-not-counted)))
+    a.agree.ensures c.if-not-agree.true c.unsound.ensures in
+    record { answer = r.0; pairs = r.1 }
 
 pub slice_bounds-agree-end-4 : goal.slice_bounds-agree-end-4
 slice_bounds-agree-end-4 c =
@@ -109,8 +113,9 @@ pub returns-then-not-agree-2 : goal.returns-then-not-agree-2
 returns-then-not-agree-2 c =
     let a = c in
     let k = a in
-    answers_no k.args.s (part_to k.args.s _ k.count_entries-counted.result (k.count_entries-counted.ensures.counts.tables (all-good (goal.at.returns-then-not-agree-2 k).Else-not-counted)))
-    a.agree-2.ensures c.if-not-agree-2.true c.unsound-then-not-agree-2.ensures
+    let r = answers_no k.args.s (part_to k.args.s _ k.count_entries-counted.result (k.count_entries-counted.ensures.counts.tables (all-good (goal.at.returns-then-not-agree-2 k).Else-not-counted)))
+    a.agree-2.ensures c.if-not-agree-2.true c.unsound-then-not-agree-2.ensures in
+    record { answer = r.0; pairs = r.1 }
 
 pub jobs_right-requires : goal.jobs_right-requires
 jobs_right-requires c = λ j l.
@@ -121,8 +126,9 @@ pub returns-then-not-jobs_right : goal.returns-then-not-jobs_right
 returns-then-not-jobs_right c =
     let a = c in
     let k = a in
-    answers_no k.args.s (part_jobs k.args.s _ k.count_entries-counted.result (k.count_entries-counted.ensures.counts.tables (all-good (goal.at.returns-then-not-jobs_right k).Else-not-counted)))
-    a.jobs_right.ensures c.if-not-jobs_right.true c.unsound-then-not-jobs_right.ensures
+    let r = answers_no k.args.s (part_jobs k.args.s _ k.count_entries-counted.result (k.count_entries-counted.ensures.counts.tables (all-good (goal.at.returns-then-not-jobs_right k).Else-not-counted)))
+    a.jobs_right.ensures c.if-not-jobs_right.true c.unsound-then-not-jobs_right.ensures in
+    record { answer = r.0; pairs = r.1 }
 
 pub queues_right-requires : goal.queues_right-requires
 queues_right-requires c = transports_few _ (ranged (goal.at.queues_right-requires c).Else-not-counted)
@@ -130,20 +136,25 @@ queues_right-requires c = transports_few _ (ranged (goal.at.queues_right-require
 pub returns-then-not-queues_right : goal.returns-then-not-queues_right
 returns-then-not-queues_right c =
     let a = c in
-    answers_no a.args.s (part_queues a.args.s) a.queues_right.ensures c.if-not-queues_right.true c.unsound-then-not-queues_right.ensures
+    let r = answers_no a.args.s (part_queues a.args.s) a.queues_right.ensures c.if-not-queues_right.true c.unsound-then-not-queues_right.ensures in
+    record { answer = r.0; pairs = r.1 }
 
 pub returns-then-not-each_once : goal.returns-then-not-each_once
 returns-then-not-each_once c =
     let a = c in
-    answers_no a.args.s (part_arrivals a.args.s) a.each_once.ensures c.if-not-each_once.true c.unsound-then-not-each_once.ensures
+    let r = answers_no a.args.s (part_arrivals a.args.s) a.each_once.ensures c.if-not-each_once.true c.unsound-then-not-each_once.ensures in
+    record { answer = r.0; pairs = r.1 }
 
 pub seconds_rise-requires : goal.seconds_rise-requires
-seconds_rise-requires c = listed_below _ _ _ (sym c.each_once.ensures ∙ c.if-not-each_once.false)
+seconds_rise-requires c =
+    let r = listed_below _ _ _ (sym c.each_once.ensures ∙ c.if-not-each_once.false) in
+    record { count_bound = r.0; by_index = r.1 }
 
 pub returns-then-not-seconds_rise : goal.returns-then-not-seconds_rise
 returns-then-not-seconds_rise c =
     let a = c in
-    answers_no a.args.s (part_rising a.args.s) a.seconds_rise.ensures c.if-not-seconds_rise.true c.unsound-then-not-seconds_rise.ensures
+    let r = answers_no a.args.s (part_rising a.args.s) a.seconds_rise.ensures c.if-not-seconds_rise.true c.unsound-then-not-seconds_rise.ensures in
+    record { answer = r.0; pairs = r.1 }
 
 pub destinations_right-requires : goal.destinations_right-requires
 destinations_right-requires c = ranged (goal.at.destinations_right-requires c).Else-not-counted
