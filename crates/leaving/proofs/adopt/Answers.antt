@@ -19,7 +19,7 @@ loop-j-preserved c = (
       (elim c.if-stays-j.branch [
       then-stays-j w ↦ w.link-is ∙ w.nearest-link.ensures ∙ sym (if_true _ _ w.if-stays-j.true)
     | else-stays-j w ↦ w.link-is ∙ sym (if_false _ _ w.if-stays-j.false)
-    ],
+    ]),
   omega arith,
 )
 

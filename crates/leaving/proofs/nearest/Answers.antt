@@ -24,7 +24,7 @@ bounds-parent-j c = omega (arith, leads_below _ _ _ (omega arith) (omega arith) 
 
 pub loop-left-preserved : goal.loop-left-preserved
 loop-left-preserved c = (
-  nearest_on (λ x. get_or c.args.stays.now x false) (at c.args.parent.now) c.loop-left.false c.loop-left.link
+  nearest_on (λ x. get_or c.args.stays.now x false) (at c.args.parent.now) c.loop-left.left c.loop-left.link
       c.wide-j.result (omega arith) (omega arith) c.wide-j.ensures.0 c.if-stays-j.false ∙ c.loop-left.invariant.0,
   rw c.wide-j.ensures.0 (leads_next _ _ _ (omega arith) (omega arith) c.loop-left.invariant.1),
 )

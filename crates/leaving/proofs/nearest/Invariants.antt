@@ -9,7 +9,7 @@ use Rattle.leaving.specs.Leaving.{nearest_of}
 use Rattle.leaving.proofs.nearest.Given as goal
 
 abbrev pub invariant-loop-left : goal.invariant-loop-left
-invariant-loop-left l = (first_along (λ x. get_or l.stays x false) (at l.parent) l.left l.link ≡ nearest_of l.stays l.parent l.link) × (leads_inside (at l.parent) l.left l.link ≡ true)
+invariant-loop-left l = (first_along (λ x. get_or l.stays x false) (at l.parent) l.left l.link ≡ nearest_of l.stays l.parent l.fn.link) × (leads_inside (at l.parent) l.left l.link ≡ true)
 
 abbrev pub decreases-loop-left : goal.decreases-loop-left
 decreases-loop-left l = l.left

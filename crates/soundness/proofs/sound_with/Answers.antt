@@ -21,8 +21,8 @@ use Rattle.soundness.proofs.SoundOfParts.{whole}
 use Rattle.soundness.proofs.sound_with.Goals as goal
 use Rattle.soundness.proofs.sound_with.Goals.{After-destinations_right, Else-not-counted, Else-not-in_range, Else-not-mark_orders, Start}
 
-all-good : (c : Else-not-counted) → c.count_entries-counted.result.well_formed ≡ true
-all-good c = not-false _ c.if-not-counted.false
+all-good : (c : Else-not-counted) → c.count_entries-counted.result.good ≡ true
+all-good c = c.if-not-counted.false
 
 ordered : (c : Else-not-mark_orders) → c.mark_orders.result ≡ true
 ordered c = c.if-not-mark_orders.false
@@ -89,7 +89,7 @@ returns-then-not-counted c =
 pub agree-requires : goal.agree-requires
 agree-requires c =
     let k = c in
-    few (transports_few _ (ranged (goal.at.agree-requires k).Else-not-counted)) (shape (goal.at.agree-requires k).Start).busy-1.transport (k.count_entries-counted.ensures.counts.tables (all-good (goal.at.agree-requires k).Else-not-counted)).on-1.size
+    few (transports_few _ (ranged (goal.at.agree-requires k).Else-not-counted)) (shape (goal.at.agree-requires k).Start).busy.transport (k.count_entries-counted.ensures.counts.tables (all-good (goal.at.agree-requires k).Else-not-counted)).on.size
 
 pub returns-then-not-agree : goal.returns-then-not-agree
 returns-then-not-agree c =
@@ -102,12 +102,12 @@ returns-then-not-agree c =
 pub slice_bounds-agree-end-4 : goal.slice_bounds-agree-end-4
 slice_bounds-agree-end-4 c =
     let k = c in
-    sym (k.count_entries-counted.ensures.counts.tables (all-good (goal.at.slice_bounds-agree-end-4 k).Else-not-counted)).to-1.size
+    sym (k.count_entries-counted.ensures.counts.tables (all-good (goal.at.slice_bounds-agree-end-4 k).Else-not-counted)).to.size
 
 pub agree-requires-2 : goal.agree-requires-2
 agree-requires-2 c =
     let k = c in
-    few (destinations_few _ (ranged (goal.at.agree-requires-2 k).Else-not-counted)) (shape (goal.at.agree-requires-2 k).Start).busy-1.destination (k.count_entries-counted.ensures.counts.tables (all-good (goal.at.agree-requires-2 k).Else-not-counted)).to-1.size
+    few (destinations_few _ (ranged (goal.at.agree-requires-2 k).Else-not-counted)) (shape (goal.at.agree-requires-2 k).Start).busy.destination (k.count_entries-counted.ensures.counts.tables (all-good (goal.at.agree-requires-2 k).Else-not-counted)).to.size
 
 pub returns-then-not-agree-2 : goal.returns-then-not-agree-2
 returns-then-not-agree-2 c =
@@ -119,8 +119,8 @@ returns-then-not-agree-2 c =
 
 pub jobs_right-requires : goal.jobs_right-requires
 jobs_right-requires c = λ j l.
-    sum_small (counts_within _ _ _ _ _ _ (c.count_entries-counted.ensures.counts.tables (all-good (goal.at.jobs_right-requires c).Else-not-counted)).waiting-1 j l)
-    (counts_within _ _ _ _ _ _ (c.count_entries-counted.ensures.counts.tables (all-good (goal.at.jobs_right-requires c).Else-not-counted)).busy-1 j l)
+    sum_small (counts_within _ _ _ _ _ _ (c.count_entries-counted.ensures.counts.tables (all-good (goal.at.jobs_right-requires c).Else-not-counted)).waiting j l)
+    (counts_within _ _ _ _ _ _ (c.count_entries-counted.ensures.counts.tables (all-good (goal.at.jobs_right-requires c).Else-not-counted)).busy j l)
 
 pub returns-then-not-jobs_right : goal.returns-then-not-jobs_right
 returns-then-not-jobs_right c =
