@@ -22,7 +22,7 @@ use Rattle.soundness.proofs.sound_with.Goals as goal
 use Rattle.soundness.proofs.sound_with.Goals.{After-destinations_right, Else-not-counted, Else-not-in_range, Else-not-mark_orders, Start}
 
 all-good : (c : Else-not-counted) → c.count_entries-counted.result.good ≡ true
-all-good c = c.if-not-counted.false
+all-good c = not-false _ c.if-not-counted.false
 
 ordered : (c : Else-not-mark_orders) → c.mark_orders.result ≡ true
 ordered c = c.if-not-mark_orders.false
