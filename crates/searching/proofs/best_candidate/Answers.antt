@@ -1,16 +1,17 @@
-use Prim.Native.Nat.{◌+◌, ◌-◌, ◌*◌, ◌≤◌, ◌<◌}
+use Prim.Native.Nat.{ℕ, ◌+◌, ◌-◌, ◌*◌, ◌≤◌, ◌<◌}
 use mathlib.Core.Path.{◌≡◌, refl, sym, ◌∙◌, ap}
-use mathlib.Core.Bool.{true, false}
-use mathlib.Core.Logic.{⊎_elim}
+use mathlib.Core.Bool.{Bool, true, false, not, ◌&&◌}
 use native.Mathlib.Omega.{arith}
-use lib.Dec.{ltb, lit≤}
+use lib.Dec.{eqb, leb, ltb, lit≤}
+use lib.ListN.{get_or}
 use Rattle.rules.specs.State.{at}
 use Rattle.eligibility.specs.Eligibility.{ready_in}
 use Rattle.searching.proofs.Sizes.{next_fits, age_is, age_small, index_fits}
 use Rattle.searching.proofs.Scores.{tests_read}
 use Rattle.searching.proofs.Searches.{SearchedTo, search_begins, search_is, link_below, search_done, passed_by, search_stops, search_keeps, search_leads}
 use Rattle.searching.proofs.best_candidate.Goals as goal
-use Rattle.searching.proofs.best_candidate.Goals.{After-leads, After-wide-k, After-wide32}
+use Rattle.searching.proofs.best_candidate.Goals.{After-wide-k, After-wide32}
+use Rattle.searching.proofs.best_candidate.Goals.{then-jobs-k+else-not_above+then-leads, then-jobs-k+else-not_above+else-leads, else-jobs-k}
 
 pub overflow_cast-n : goal.overflow_cast-n
 overflow_cast-n c = omega (arith, c.requires.1)
@@ -57,7 +58,7 @@ overflow_sub-age c = omega (arith, arrival-is (goal.at.overflow_sub-age c).After
 waited : (c : After-wide32)
  → let g = c.args in
     (g.time + 1 - c.wide32.result ≤ 4294967296)
-    × (g.time + 1 - c.wide32.result ≡ g.time - at g.t1.arrival (at g.t2.jobs c.loop-i.i) + 1)
+    × (g.time + 1 - c.wide32.result ≡ g.time - at g.jobs.arrival (at g.arrivals.jobs c.loop-i.i) + 1)
 waited c =
     let s = c in (
       age_small s.args.time c.wide32.result s.requires.0,
@@ -113,58 +114,63 @@ overflow_add-i c = let i = c in omega (arith, i.loop-i-test.true, i.requires.1)
 pub loop-i-smaller : goal.loop-i-smaller
 loop-i-smaller c = let i = c in omega (arith, i.loop-i-test.true)
 
-looked_at_lem : (c : After-leads)
- → let i = c in
-    let g = i.args in
-    let l = i.loop-i in
-    let To = SearchedTo g.t1 g.t2 g.waits.now (ready_in g.pairs.now g.room.now) g.time g.t g.y g.most in
-    (c.leads.result ≡ true → To (at g.t2.jobs l.i + 1) (c.args.time + 1 - c.wide32.result) c.wide16-m.result (l.looked + 1) (l.i + 1))
-    × (c.leads.result ≡ false → To l.link l.than l.of (l.looked + 1) (l.i + 1))
-looked_at_lem c =
-    let a = c in
-    let i = a in
-    let g = i.args in
-    let l = i.loop-i in
-    let o = c in
-    let size = c.wide16-m.ensures in
-    let k = i.wide-k.ensures.0 in
-    let ahead = c.greater-ahead.result in
-    let is : c.wide16-m.result ≡ at g.waits.now (at g.t2.jobs l.i) = size.0 ∙ ap (at g.waits.now) k in
-    let goes = sym o.not_above.ensures ∙ o.if-not_above.false in
-    let before = c.greater-ahead.ensures ∙ ap (λ z. ltb (l.than * z) ((c.args.time + 1 - c.wide32.result) * l.of)) is in
-    let tests =
-    tests_read g.t1 g.waits.now (ready_in g.pairs.now g.room.now) g.y g.most (at g.t2.jobs l.i) i.wide-k.result c.wide16-m.result c.candidate-able.result ahead
-    k size.0 c.candidate-able.ensures
-    in (
-      λ t. search_leads l.inv.1 i.loop-i-test.true _ refl (here (goal.at.After-leads i).After-wide-k).1 (on (goal.at.After-leads a).After-wide32) (c.args.time + 1 - c.wide32.result) (waited (goal.at.After-leads a).After-wide32).1 goes ahead before
-          (sym (c.leads.ensures ∙ tests) ∙ t) c.wide16-m.result is size.1 (waited (goal.at.After-leads a).After-wide32).0,
-      λ f. search_keeps l.inv.1 i.loop-i-test.true _ refl (here (goal.at.After-leads i).After-wide-k).1 (on (goal.at.After-leads a).After-wide32) (c.args.time + 1 - c.wide32.result) (waited (goal.at.After-leads a).After-wide32).1 goes ahead before (sym (c.leads.ensures ∙ tests) ∙ f),
+-- The job was looked at: it leads, or leaves the best as it is.
+weighed : (c : After-wide-k) (second m : ℕ) (above able ahead led : Bool)
+    → let g = c.args in
+    let l = c.loop-i in
+    let k = c.wide-k.result in
+    let x = at g.arrivals.jobs l.i in
+    let To = SearchedTo g.jobs g.arrivals g.waits.now (ready_in g.pairs.now g.room.now) g.time g.t g.y g.most in
+    at g.jobs.transport k ≡ g.t
+    → second ≡ at g.jobs.arrival k
+    → above ≡ leb ((g.time + 1 - second) * l.of) l.than
+    → above ≡ false
+    → (m ≡ at g.waits.now k) × (m < 65536)
+    → able ≡ (not (eqb x g.y) && eqb (at g.jobs.picked k) 0 && not (get_or g.jobs.preempted k false) && leb m g.most)
+    → ahead ≡ ltb (l.than * m) ((g.time + 1 - second) * l.of)
+    → led ≡ ((able && ahead) && get_or (ready_in g.pairs.now g.room.now) k false)
+    → (led ≡ true → To (x + 1) (g.time + 1 - second) m (l.looked + 1) (l.i + 1))
+    × (led ≡ false → To l.link l.than l.of (l.looked + 1) (l.i + 1))
+weighed c second m above able ahead led on arrived aboves goes size ables aheads leds =
+    let g = c.args in
+    let l = c.loop-i in
+    let k = c.wide-k.ensures.0 in
+    let x = at g.arrivals.jobs l.i in
+    let age = g.time + 1 - second in
+    let s : second ≡ at g.jobs.arrival x = arrived ∙ ap (at g.jobs.arrival) k in
+    let theirs : at g.jobs.transport x ≡ g.t = sym (ap (at g.jobs.transport) k) ∙ on in
+    let few : age ≤ 4294967296 = age_small g.time second c.requires.0 in
+    let waited : age ≡ g.time - at g.jobs.arrival x + 1 = ap (λ z. g.time + 1 - z) s ∙ age_is g.time (at g.jobs.arrival x) (here c).2 in
+    let is : m ≡ at g.waits.now x = size.0 ∙ ap (at g.waits.now) k in
+    let below = sym aboves ∙ goes in
+    let before = aheads ∙ ap (λ z. ltb (l.than * z) (age * l.of)) is in
+    let tests = tests_read g.jobs g.waits.now (ready_in g.pairs.now g.room.now) g.y g.most x c.wide-k.result m able ahead k size.0 ables in (
+      λ t. search_leads l.invariant.1 c.loop-i-test.true _ refl (here c).1 theirs age waited below ahead before (sym (leds ∙ tests) ∙ t) m is size.1 few,
+      λ f. search_keeps l.invariant.1 c.loop-i-test.true _ refl (here c).1 theirs age waited below ahead before (sym (leds ∙ tests) ∙ f),
     )
 
 pub loop-i-preserved : goal.loop-i-preserved
 loop-i-preserved c =
-    let i = c in
-    let now = c.if-jobs-k in (
+    let now = c.if-jobs-k in
+    let i = (goal.at.loop-i-preserved c).After-wide-k in (
       refl,
-      ⊎_elim
-          (λ w.
-          let a : tie.After-wide32 invariant-loop decreases-loop = record { before = record { before = record { before = c; if-jobs-k = w.0 }; wide32-arg-1 = w.1 }; wide32 = w.2 } in
-          let o : tie.Else2 invariant-loop decreases-loop = record { before = record { before = a; not_above = w.3 }; if-not_above = w.4 } in
-          let m : tie.After-wide16 invariant-loop decreases-loop = record { before = record { before = o; wide16-arg-1 = w.5 }; wide16-m = w.6 } in
-          let d : tie.After-candidate invariant-loop decreases-loop = record { before = record { before = record { before = m; candidate-arg-1 = w.7 }; candidate-arg-then-jobs-k-1 = w.8 }; candidate-able = w.9 } in
-          let g : tie.After-leads invariant-loop decreases-loop = record { before = record { before = d; greater-ahead = w.10 }; leads = w.11 } in
-          search_is ((looked_at_lem (goal.at.loop-i-preserved g).After-leads).0 w.12.taken) now.link now.than now.of now.looked w.13 w.14 w.15 w.16)
-          (⊎_elim
-          (λ w.
-          let a : tie.After-wide32 invariant-loop decreases-loop = record { before = record { before = record { before = c; if-jobs-k = w.0 }; wide32-arg-1 = w.1 }; wide32 = w.2 } in
-          let o : tie.Else2 invariant-loop decreases-loop = record { before = record { before = a; not_above = w.3 }; if-not_above = w.4 } in
-          let m : tie.After-wide16 invariant-loop decreases-loop = record { before = record { before = o; wide16-arg-1 = w.5 }; wide16-m = w.6 } in
-          let d : tie.After-candidate invariant-loop decreases-loop = record { before = record { before = record { before = m; candidate-arg-1 = w.7 }; candidate-arg-then-jobs-k-1 = w.8 }; candidate-able = w.9 } in
-          let g : tie.After-leads invariant-loop decreases-loop = record { before = record { before = d; greater-ahead = w.10 }; leads = w.11 } in
-          search_is ((looked_at_lem (goal.at.loop-i-preserved g).After-leads).1 w.12.left) now.link now.than now.of now.looked w.13 w.14 w.15 w.16)
-          (λ w. search_is (passed_by i.loop-i.invariant.1 i.loop-i-test.true _ refl (here (goal.at.loop-i-preserved i).After-wide-k).1 (λ e. w.0.left (ap (at i.args.jobs.transport) i.wide-k.ensures.0 ∙ e)))
-          now.link now.than now.of now.looked w.1 w.2 w.3 w.4))
-          now.branch,
+      elim c.if-jobs-k.branch [
+        then-jobs-k+else-not_above+then-leads w ↦
+            search_is
+            ((weighed i _ _ _ _ _ _ w.if-jobs-k.true w.wide32.ensures w.not_above.ensures w.if-not_above.false w.wide16-m.ensures
+            w.candidate-able.ensures w.greater-ahead.ensures w.leads.ensures).0 w.if-leads.true)
+            now.link now.than now.of now.looked w.link-is w.than-is w.of-is w.looked-is
+      | then-jobs-k+else-not_above+else-leads w ↦
+            search_is
+            ((weighed i _ _ _ _ _ _ w.if-jobs-k.true w.wide32.ensures w.not_above.ensures w.if-not_above.false w.wide16-m.ensures
+            w.candidate-able.ensures w.greater-ahead.ensures w.leads.ensures).1 w.if-leads.false)
+            now.link now.than now.of now.looked w.link-is w.than-is w.of-is w.looked-is
+      | else-jobs-k w ↦
+            search_is
+            (passed_by c.loop-i.invariant.1 c.loop-i-test.true _ refl (here i).1
+            (λ e. w.if-jobs-k.false (ap (at c.args.jobs.transport) c.wide-k.ensures.0 ∙ e)))
+            now.link now.than now.of now.looked w.link-is w.than-is w.of-is w.looked-is
+      ],
     )
 
 pub returns : goal.returns
