@@ -1,20 +1,18 @@
 -- Texts put one behind the other, and what a text is made of.
-use Prim.Native.Nat.{ℕ, zero, suc, ◌+◌, ◌-◌, ◌/◌, ◌%◌, ◌^◌, ◌≤◌, ◌<◌, min}
+use Prim.Native.Nat.{ℕ, zero, suc, ◌+◌, ◌-◌, ◌≤◌, ◌<◌, min}
 use mathlib.Core.Path.{◌≡◌, refl, sym, ◌∙◌, ap, subst}
 use mathlib.Core.List.{List, [], ◌∷◌, ◌++◌, append-nil, append_assoc, map, map-append}
-use native.Mathlib.Nat.{le_refl, pow-zero, pow-succ'}
 use native.Mathlib.Omega.{arith}
 use native.Mathlib.Numerals.{add-one}
 use native.Mathlib.Decide.{ℕ_discrete, dec_lt}
 use lib.ListN.{length, get_or, set, take, drop, length-append, take-append-drop, drop_of_length-le}
-use lib.Seq.{sets, length-sets, set_out, take-suc, take_all, length-take-le}
-use borrow.Rule.Slice.PartMut.{put_mid, mid_of, mid_len}
-use borrow.Author.Tests.{lt-ltb, eq-eqb, ne_eqb}
+use lib.Seq.{sets, sets-eq, length-sets, drop-drop, set_out, take-suc, take_at, take_all, length-take-le}
+use borrow.Rule.Slice.PartMut.{put_mid}
+use borrow.Author.Tests.{eq-eqb, ne_eqb}
 use Rattle.laws.specs.Bools.{if◌then◌else◌}
-use Rattle.laws.proofs.Writing.{sets_append, sets_copied}
-use Rattle.io.specs.Digits.{last_digits, hex_digit_ascii, IsDigitCount}
-use Rattle.rules.specs.Board.{decimal, numbered}
-use Rattle.writing.proofs.Decimals.{decimal_small, decimal_more}
+use Rattle.laws.specs.Wrote.{Wrote}
+use Rattle.laws.proofs.Writing.{sets_append}
+use Rattle.rules.specs.Board.{numbered}
 use Rattle.lines.specs.Texts.{Put, numbers, shown_byte}
 
 sets_out : (vs l : List ℕ) (i : ℕ) → length l ≤ i → sets l i vs ≡ l
@@ -59,11 +57,8 @@ pub put_past : (word e : List ℕ) (at : ℕ) → length e ≤ at → Put word e
 put_past word e at h = record { bytes = sym (sets_out word e at h); next = omega arith }
 
 module _ (word e : List ℕ) (at n : ℕ) (h : at ≤ length e) (room : n ≡ min (length word) (length e - at)) where
-  pub part_length : length (take n word) ≡ n
+  part_length : length (take n word) ≡ n
   part_length = length-take-le n word (omega (arith, room))
-
-  pub part_fits : length (take n word) ≤ length (mid_of at (length e - at) e)
-  part_fits = omega (arith, part_length, room, mid_len at (length e) e (le_refl _))
 
   -- what is left out would stand past the end
   sets_part : sets e at (take n word) ≡ sets e at word
@@ -75,16 +70,13 @@ module _ (word e : List ℕ) (at n : ℕ) (h : at ≤ length e) (room : n ≡ mi
       ] in
       sym rest ∙ sym (sets_append (take n word) (drop n word) e at) ∙ ap (sets e at) (take-append-drop n word)
 
-  pub put_copied :
-      (z : List ℕ) {r : ℕ}
-      → r ≡ length (take n word)
-      → z ≡ take (length (take n word)) (take n word) ++ drop (length (take n word)) (mid_of at (length e - at) e)
-      → Put word e at (put_mid at (length e - at) e z) (at + r)
-  put_copied z {r} c b =
-      record {
-        bytes = sets_copied (take n word) e at z (omega (arith, part_length, room)) b ∙ sets_part;
-        next = omega (arith, c, part_length, room);
-      }
+  pub put_copied : (z : List ℕ) → z ≡ take n word → Put word e at (put_mid at (at + n - at) e z) (at + n)
+  put_copied z b = record { bytes = stored ∙ sets_part; next = omega (arith, part_length, room) }
+    where
+      stored : put_mid at (at + n - at) e z ≡ sets e at (take n word)
+      stored =
+          let k : at + n - at ≡ length (take n word) = omega (arith, part_length) in
+          rw (b, k) (ap (λ l. take at e ++ (take n word ++ l)) (drop-drop (length (take n word)) at e) ∙ sym (append_assoc (take at e) (take n word) _) ∙ sym (sets-eq (take n word) e at (omega (arith, part_length, room))))
 
 -- Number after numbered of a list.
 
@@ -137,36 +129,7 @@ pub shown_other : (b : ℕ) → (b ≡ 10 → ⊥) → b ≡ shown_byte b
 unfolding shown_byte if◌then◌else◌
 shown_other b h = rw (ne_eqb b 10 h) refl
 
--- The fewest digits of a numbered are its decimal.
+-- A word that another writer put at the front of a buffer.
 
-glyph_is : (d : ℕ) → d < 10 → hex_digit_ascii d ≡ 48 + d
-glyph_is d h = rw (lt-ltb d 10 h) refl
-
-ten_power : (k : ℕ) → 1 ≤ 10 ^ k
-ten_power zero = omega (arith, pow-zero 10)
-ten_power (suc k) = omega (arith, pow-succ' 10 k, ten_power k)
-
--- one digit less
-fewer : (k x : ℕ) → IsDigitCount 10 1 x (suc (suc k)) → IsDigitCount 10 1 (x / 10) (suc k)
-fewer k x f =
-    let e : suc (suc k) - 1 ≡ suc k = omega arith in
-    let d : suc k - 1 ≡ k = omega arith in
-    let big : 10 ^ suc k ≤ x = rw e at (f.2 (omega arith)) in
-    (omega arith, omega (arith, f.1, pow-succ' 10 (suc k)), λ l. rw d (omega (arith, big, pow-succ' 10 k)))
-
-two_digits : (k x : ℕ) → IsDigitCount 10 1 x (suc (suc k)) → 10 ≤ x
-two_digits k x f =
-    let e : suc (suc k) - 1 ≡ suc k = omega arith in
-    let big : 10 ^ suc k ≤ x = rw e at (f.2 (omega arith)) in
-    omega (arith, big, pow-succ' 10 k, ten_power k)
-
-pub digits_are : (k x : ℕ) → IsDigitCount 10 1 x k → x < 18446744073709551616 → last_digits 10 k x ≡ decimal x
-digits_are zero x f h = absurd (omega (arith, f.0))
-digits_are (suc zero) x f h =
-    let l : x < 10 = f.1 in
-    let e : x % 10 ≡ x = omega arith in
-    ap (λ d. hex_digit_ascii d ∷ []) e ∙ ap (λ b. b ∷ []) (glyph_is x l) ∙ sym (decimal_small x l)
-digits_are (suc (suc k)) x f h =
-    ap (λ l. l ++ (hex_digit_ascii (x % 10) ∷ [])) (digits_are (suc k) (x / 10) (fewer k x f) (omega arith))
-    ∙ ap (λ b. decimal (x / 10) ++ (b ∷ [])) (glyph_is (x % 10) (omega arith))
-    ∙ sym (decimal_more x (two_digits k x f) h)
+pub wrote_front : {word e x : List ℕ} {r : ℕ} → Wrote word e x r → word ≡ take r x
+wrote_front {word} {e} w = sym (rw (w.count, w.bytes) (take_at word (drop (length word) e) (length word) refl))

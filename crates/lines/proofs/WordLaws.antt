@@ -1,13 +1,14 @@
 -- The words of what is left of a line, from a place on.
 use Prim.Native.Nat.{ℕ, zero, suc, ◌+◌, ◌-◌, ◌≤◌, ◌<◌}
 use mathlib.Core.Path.{◌≡◌, refl, sym, ◌∙◌, ap}
-use mathlib.Core.Bool.{Bool, true, false, not}
+use mathlib.Core.Bool.{Bool, true, false, not, ◌&&◌}
 use mathlib.Core.List.{List, [], ◌∷◌, ◌++◌, append-nil}
 use native.Mathlib.Omega.{arith}
 use native.Mathlib.Decide.{dec_lt}
 use lib.ListN.{length, get_or, take, drop, take-append-drop, length-drop, drop_of_length-le}
 use lib.Seq.{drop-cons, drop-drop, get_or-take, get_or-drop, length-take-le}
 use lib.Dec.{eqb}
+use lib.Pointwise.{pointwise}
 use borrow.Author.Tests.{eqb-true, eq-eqb, not-true, not-false}
 use Rattle.laws.specs.Bools.{if◌then◌else◌}
 use Rattle.laws.specs.Sequence.{every_in}
@@ -99,19 +100,10 @@ module _ (s : List ℕ) (at end : ℕ) (b : not_blank s at ≡ true) (f : FirstF
 
 -- Two words compared byte for byte.
 
-same_self : (a : List ℕ) → same_bytes a a ≡ true
+-- the equality of slices says it
+pub same_pointwise : (a b : List ℕ) → pointwise eqb a b ≡ same_bytes a b
 unfolding same_bytes
-same_self [] = refl
-same_self (x ∷ a) = rw (eq-eqb x x refl) (same_self a)
-
-same_bytes_lem : (a b : List ℕ) → same_bytes a b ≡ true → a ≡ b
-unfolding same_bytes
-same_bytes_lem [] [] h = refl
-same_bytes_lem [] (y ∷ b) h = true_not_false h refl
-same_bytes_lem (x ∷ a) [] h = true_not_false h refl
-same_bytes_lem (x ∷ a) (y ∷ b) h = rw (eqb-true x y (and_left (eqb x y) (same_bytes a b) h), same_bytes_lem a b (and_right (eqb x y) (same_bytes a b) h)) refl
-
--- the kit's test says it
-pub same_is : (a b : List ℕ) (r : Bool) → (r ≡ true → a ≡ b) × (a ≡ b → r ≡ true) → r ≡ same_bytes a b
-same_is a b true h = sym (ap (same_bytes a) (sym (h.0 refl)) ∙ same_self a)
-same_is a b false h = sym (false_of (λ t. true_not_false (h.1 (same_bytes_lem a b t)) refl))
+same_pointwise [] [] = refl
+same_pointwise [] (y ∷ b) = refl
+same_pointwise (x ∷ a) [] = refl
+same_pointwise (x ∷ a) (y ∷ b) = ap (λ t. eqb x y && t) (same_pointwise a b)
