@@ -14,7 +14,6 @@ use Rattle.laws.specs.Bools.{if◌then◌else◌}
 use Rattle.laws.specs.Sequence.{every_in}
 use Rattle.laws.proofs.Bools.{if_false, and_left_false, and_right_false}
 use Rattle.lines.specs.declared.text.Number.{Number}
-use Rattle.lines.specs.declared.text.Number.TheVariants
 use Rattle.lines.specs.Words.{is_digit, value_from, value_of, is_number, number_of}
 
 -- more digits make no number smaller

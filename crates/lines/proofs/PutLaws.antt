@@ -1,5 +1,5 @@
 -- Texts put one behind the other, and what a text is made of.
-use Prim.Native.Nat.{ℕ, zero, suc, ◌+◌, ◌-◌, ◌≤◌, ◌<◌, min}
+use Prim.Native.Nat.{ℕ, suc, ◌+◌, ◌-◌, ◌≤◌, ◌<◌, min}
 use mathlib.Core.Path.{◌≡◌, refl, sym, ◌∙◌, ap, subst}
 use mathlib.Core.List.{List, [], ◌∷◌, ◌++◌, append-nil, append_assoc, map, map-append}
 use native.Mathlib.Omega.{arith}
@@ -76,7 +76,9 @@ module _ (word e : List ℕ) (at n : ℕ) (h : at ≤ length e) (room : n ≡ mi
       stored : put_mid at (at + n - at) e z ≡ sets e at (take n word)
       stored =
           let k : at + n - at ≡ length (take n word) = omega (arith, part_length) in
-          rw (b, k) (ap (λ l. take at e ++ (take n word ++ l)) (drop-drop (length (take n word)) at e) ∙ sym (append_assoc (take at e) (take n word) _) ∙ sym (sets-eq (take n word) e at (omega (arith, part_length, room))))
+          let tail : drop (length (take n word)) (drop at e) ≡ drop (at + length (take n word)) e = drop-drop (length (take n word)) at e in
+          let whole = sets-eq (take n word) e at (omega (arith, part_length, room)) in
+          rw (b, k) (ap (λ l. take at e ++ (take n word ++ l)) tail ∙ sym (append_assoc (take at e) (take n word) _) ∙ sym whole)
 
 -- Number after numbered of a list.
 

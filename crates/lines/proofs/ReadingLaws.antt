@@ -12,7 +12,6 @@ use lib.Seq.{take-suc-set}
 use Rattle.laws.specs.Bools.{if◌then◌else◌}
 use Rattle.laws.proofs.Bools.{and_left_false, true_not_false}
 use Rattle.lines.specs.declared.text.Number.{Number}
-use Rattle.lines.specs.declared.text.Number.TheVariants
 use Rattle.lines.specs.Words.{pieces, not_empty, words_of, value_of, is_number, all_numbers, numbers_of, number_of, FirstFrom, is_byte, not_blank, Read}
 use Rattle.lines.proofs.WordLaws.{words_skip, words_first}
 

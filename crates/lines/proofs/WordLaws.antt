@@ -9,10 +9,10 @@ use lib.ListN.{length, get_or, take, drop, take-append-drop, length-drop, drop_o
 use lib.Seq.{drop-cons, drop-drop, get_or-take, get_or-drop, length-take-le}
 use lib.Dec.{eqb}
 use lib.Pointwise.{pointwise}
-use borrow.Author.Tests.{eqb-true, eq-eqb, not-true, not-false}
+use borrow.Author.Tests.{eqb-true, not-true, not-false}
 use Rattle.laws.specs.Bools.{if◌then◌else◌}
 use Rattle.laws.specs.Sequence.{every_in}
-use Rattle.laws.proofs.Bools.{and_left, and_right, not_is_true, true_not_false, false_of}
+use Rattle.laws.proofs.Bools.{and_left, and_right, not_is_true, true_not_false}
 use Rattle.laws.proofs.Sequence.{every_from_get_or}
 use Rattle.lines.specs.Words.{longer, pieces, not_empty, words_of, same_bytes, FirstFrom, is_byte, not_blank}
 

@@ -3,7 +3,6 @@ use Rattle.std.specs.Prelude.{ℕ, ◌+◌, min, max, ◌≡◌, List, [], ◌�
 use Rattle.std.proofs.lemmas.List.Edits.{sets}
 use Rattle.laws.specs.Bools.{if◌then◌else◌}
 use Rattle.rules.specs.declared.SetupAnswer.{SetupAnswer}
-use Rattle.rules.specs.declared.SetupAnswer.TheVariants
 use Rattle.rules.specs.declared.JobAnswer.{JobAnswer}
 use Rattle.rules.specs.declared.PickAnswer.{PickAnswer}
 use Rattle.rules.specs.declared.ReportAnswer.{ReportAnswer}

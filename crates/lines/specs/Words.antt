@@ -3,7 +3,6 @@ use Rattle.std.specs.Prelude.{ℕ, ◌+◌, ◌*◌, ◌-◌, ◌≤◌, ◌<◌
 use Rattle.laws.specs.Bools.{if◌then◌else◌}
 use Rattle.laws.specs.Sequence.{every_in}
 use Rattle.lines.specs.declared.text.Number.{Number}
-use Rattle.lines.specs.declared.text.Number.TheVariants
 
 -- Words are parted by one or more blanks, byte 32.
 

@@ -4,10 +4,6 @@ use Rattle.lines.proofs.answer.picked.Goals as goal
 
 pub returns : goal.returns
 returns c =
-    let four = c in
-    let three = four in
-    let two = three in
-    let one = two in
-    let a = put_more one.put-at.ensures one.put_number-at.ensures in
-    let b = put_more (put_more a two.put_number-at-2.ensures) three.put_number-at-3.ensures in
-    put_more (put_more b four.put_number-at-4.ensures) c.put_byte.ensures
+    let a = put_more c.put-at.ensures c.put_number-at.ensures in
+    let b = put_more (put_more a c.put_number-at-2.ensures) c.put_number-at-3.ensures in
+    put_more (put_more b c.put_number-at-4.ensures) c.put_byte.ensures

@@ -21,7 +21,6 @@ loop-i-preserved c = (
 
 pub returns : goal.returns
 returns c =
-    let counted = c in
-    let list = counted.args.list.now in
-    let all = take_most _ list c.loop-i.i counted.at_most-count.ensures (omega arith) in
-    put_more counted.put_number-p.ensures (put_as (ap numbers all) c.loop-i.invariant.3)
+    let list = c.args.list.now in
+    let all = take_most _ list c.loop-i.i c.at_most-count.ensures (omega arith) in
+    put_more c.put_number-p.ensures (put_as (ap numbers all) c.loop-i.invariant.3)

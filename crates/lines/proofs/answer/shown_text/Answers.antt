@@ -4,9 +4,7 @@ use Rattle.lines.proofs.answer.shown_text.Goals as goal
 
 pub returns : goal.returns
 returns c =
-    let a =
-    put_more c.put-at.ensures
-    c.put_number-at.ensures in
+    let a = put_more c.put-at.ensures c.put_number-at.ensures in
     let b = put_more a c.put_byte-at.ensures in
     let d = put_more b c.put_text-at.ensures in
     put_more d c.put_byte.ensures

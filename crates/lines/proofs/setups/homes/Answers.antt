@@ -2,7 +2,6 @@ use mathlib.Core.Path.{refl}
 use native.Mathlib.Omega.{arith}
 use lib.ListN.{replicate, length-set}
 use Rattle.laws.proofs.Fill.{fill_none, fill_more}
-use Rattle.rules.specs.State as state
 use Rattle.lines.proofs.SetupLaws.{homes_made}
 use Rattle.lines.proofs.setups.homes.Goals as goal
 

@@ -12,8 +12,7 @@ loop-at-init c = reading_start _ _ _ _ c.skip_blanks-at.ensures
 
 pub returns-in_default : goal.returns-in_default
 returns-in_default c =
-    let f = c in
-    reading_not _ _ _ _ _ _ f.loop-at.invariant f.loop-at-test.true f.requires.1 _ f.find-end.ensures
+    reading_not _ _ _ _ _ _ c.loop-at.invariant c.loop-at-test.true c.requires.1 _ c.find-end.ensures
     (sym c.read_number.ensures ∙ c.in_default.is)
 
 room : (c : In-Is) → c.loop-at.count < length c.loop-at.out
@@ -27,8 +26,7 @@ bounds-out-count c = room (goal.at.bounds-out-count c).In-Is
 
 pub loop-at-preserved : goal.loop-at-preserved
 loop-at-preserved c =
-    let f = c in
-    reading_more _ _ _ _ _ _ f.loop-at.invariant f.loop-at-test.true f.requires.1 _ f.find-end.ensures _
+    reading_more _ _ _ _ _ _ c.loop-at.invariant c.loop-at-test.true c.requires.1 _ c.find-end.ensures _
     (sym c.read_number.ensures ∙ c.in-Is.is) _ c.skip_blanks-at-in-loop-at.ensures
 
 pub returns : goal.returns
