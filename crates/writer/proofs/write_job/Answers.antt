@@ -11,7 +11,7 @@ use Rattle.journal.specs.Writes.{numbers_bytes}
 use Rattle.writer.proofs.PartLaws.{Parts, Rest, full, rest_all, rest_next, rest_put, tail_fits, tail_put}
 use Rattle.writer.proofs.RecordLaws.{job_clock, job_transport, job_empty, job_long, job_large, job_parts}
 use Rattle.writer.proofs.write_job.Goals as goal
-use Rattle.writer.proofs.write_job.Goals.{After-put_number-at, After-put_number-at-2, After-put_number-at-3, After-put_number-at-4, Else-not-all_small, Else-not-fits, LOST-After-fits2, Start}
+use Rattle.writer.proofs.write_job.Goals.{After-put_number-at, After-put_number-at-2, After-put_number-at-3, After-put_number-at-4, Else-not-all_small, Else-not-fits, After-fits, Start}
 
 abbrev Left : Start → List ℕ → List ℕ → ℕ → Type 0
 Left s numbers = Rest (job s.args.clock s.args.transport s.args.destinations.now) s.args.buffer.now s.args.used numbers (numbers_bytes s.args.destinations.now)
@@ -19,17 +19,17 @@ Left s numbers = Rest (job s.args.clock s.args.transport s.args.destinations.now
 smalls : (c : Else-not-all_small) → every_in small c.args.destinations.now ≡ true
 smalls c = sym c.all_small.ensures ∙ c.if-not-all_small.false
 
-parts : (c : LOST-After-fits2)
- → Parts (job c.args.clock c.args.transport c.args.destinations.now) (1 ∷ (c.args.clock ∷ c.args.transport ∷ length c.args.destinations.now ∷ [])) (numbers_bytes c.args.destinations.now) ((1 + c.type_size.result + c.size_of-2.result + c.size_of-3.result) + c.size_of_all.result)
-parts (goal.at.LOST c).LOST-After-fits2 =
+parts : (c : After-fits)
+ → Parts (job c.args.clock c.args.transport c.args.destinations.now) (1 ∷ (c.args.clock ∷ c.args.transport ∷ length c.args.destinations.now ∷ [])) (numbers_bytes c.args.destinations.now) ((1 + c.size_of.result + c.size_of-2.result + c.size_of-3.result) + c.size_of_all.result)
+parts c =
     let n = c in
     let r = c in
     let t = r in
-    job_parts t.if-clock-gt4294967295.false t.if-transport-gt4294967295.false t.if-count-lt1.false t.if-count-gt256.false (smalls (goal.at.LOST r).Else-not-all_small)
-    n.type_size.ensures.0 n.size_of-2.ensures.0 n.size_of-3.ensures.0 c.size_of_all.ensures.0
+    job_parts t.if-clock-gt4294967295.false t.if-transport-gt4294967295.false t.if-count-lt1.false t.if-count-gt256.false (smalls (goal.at.After-fits r).Else-not-all_small)
+    n.size_of.ensures.0 n.size_of-2.ensures.0 n.size_of-3.ensures.0 c.size_of_all.ensures.0
 
 all : (c : Else-not-fits) → let s = c in Left (goal.at.Else-not-fits s).Start (1 ∷ (s.args.clock ∷ s.args.transport ∷ length s.args.destinations.now ∷ [])) s.args.buffer.now s.args.used
-all c = rest_all _ _ _ (parts (goal.at.Else-not-fits c).LOST-After-fits2) (sym c.fits2.ensures ∙ c.if-not-fits.false)
+all c = rest_all _ _ _ (parts (goal.at.Else-not-fits c).After-fits) (sym c.fits.ensures ∙ c.if-not-fits.false)
 
 kind-put : (c : After-put_number-at) → Left (goal.at.After-put_number-at c).Start (c.args.clock ∷ c.args.transport ∷ length c.args.destinations.now ∷ []) c.put_number-at.new.buffer c.put_number-at.result
 kind-put c = rest_put _ _ _ (all (goal.at.After-put_number-at c).Else-not-fits) c.put_number-at.ensures
@@ -74,7 +74,7 @@ size_of_all-requires c = let r = c in (r.if-count-gt256.false, smalls (goal.at.s
 
 pub returns-then-not-fits : goal.returns-then-not-fits
 returns-then-not-fits c =
-    let r = full _ _ _ (parts (goal.at.returns-then-not-fits c).LOST-After-fits2) (sym c.fits2.ensures ∙ c.if-not-fits.true) in
+    let r = full _ _ _ (parts (goal.at.returns-then-not-fits c).After-fits) (sym c.fits.ensures ∙ c.if-not-fits.true) in
     record { answer = r.0; bytes = r.1 }
 
 pub put_number-at-requires : goal.put_number-at-requires

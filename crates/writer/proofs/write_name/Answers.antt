@@ -7,17 +7,17 @@ use Rattle.journal.specs.Records.{name}
 use Rattle.writer.proofs.PartLaws.{Parts, Rest, full, rest_all, rest_next, rest_put, tail_fits, tail_put}
 use Rattle.writer.proofs.RecordLaws.{name_number_lem, name_empty, name_long, name_parts}
 use Rattle.writer.proofs.write_name.Goals as goal
-use Rattle.writer.proofs.write_name.Goals.{After-put_number-at, After-put_number-at-2, After-put_number-at-3, Else-not-fits, LOST-After-fits2, Start}
+use Rattle.writer.proofs.write_name.Goals.{After-put_number-at, After-put_number-at-2, After-put_number-at-3, Else-not-fits, After-fits, Start}
 
 -- What is left there.
 abbrev Left : Start → List ℕ → List ℕ → ℕ → Type 0
 Left s numbers = Rest (name s.args.destination s.args.word.now) s.args.buffer.now s.args.used numbers s.args.word.now
 
-parts : (c : LOST-After-fits2) → let a = c.args in Parts (name a.destination a.word.now) (0 ∷ (c.args.destination ∷ length c.args.word.now ∷ [])) a.word.now (3 + length a.word.now)
-parts (goal.at.LOST c).LOST-After-fits2 = name_parts c.if-destination-gt31.false c.if-length-lt1.false c.if-length-gt63.false
+parts : (c : After-fits) → let a = c.args in Parts (name a.destination a.word.now) (0 ∷ (c.args.destination ∷ length c.args.word.now ∷ [])) a.word.now (3 + length a.word.now)
+parts c = name_parts c.if-destination-gt31.false c.if-length-lt1.false c.if-length-gt63.false
 
 all : (c : Else-not-fits) → let s = c in Left (goal.at.Else-not-fits s).Start (0 ∷ (s.args.destination ∷ length s.args.word.now ∷ [])) s.args.buffer.now s.args.used
-all c = rest_all _ _ _ (parts (goal.at.Else-not-fits c).LOST-After-fits2) (sym c.fits2.ensures ∙ c.if-not-fits.false)
+all c = rest_all _ _ _ (parts (goal.at.Else-not-fits c).After-fits) (sym c.fits.ensures ∙ c.if-not-fits.false)
 
 kind-put : (c : After-put_number-at) → Left (goal.at.After-put_number-at c).Start (c.args.destination ∷ length c.args.word.now ∷ []) c.put_number-at.new.buffer c.put_number-at.result
 kind-put c = rest_put _ _ _ (all (goal.at.After-put_number-at c).Else-not-fits) c.put_number-at.ensures
@@ -46,7 +46,7 @@ returns-then-length-gt63 c =
 
 pub returns-then-not-fits : goal.returns-then-not-fits
 returns-then-not-fits c =
-    let r = full _ _ _ (parts (goal.at.returns-then-not-fits c).LOST-After-fits2) (sym c.fits2.ensures ∙ c.if-not-fits.true) in
+    let r = full _ _ _ (parts (goal.at.returns-then-not-fits c).After-fits) (sym c.fits.ensures ∙ c.if-not-fits.true) in
     record { answer = r.0; bytes = r.1 }
 
 pub put_number-at-requires : goal.put_number-at-requires

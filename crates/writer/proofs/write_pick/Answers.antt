@@ -6,17 +6,17 @@ use Rattle.journal.specs.Records.{pick}
 use Rattle.writer.proofs.PartLaws.{Parts, Rest, full, rest_all, rest_next, rest_put, rest_none}
 use Rattle.writer.proofs.RecordLaws.{pick_clock, pick_parts}
 use Rattle.writer.proofs.write_pick.Goals as goal
-use Rattle.writer.proofs.write_pick.Goals.{After-put_number-at, Else-not-fits, LOST-After-fits2, Start}
+use Rattle.writer.proofs.write_pick.Goals.{After-put_number-at, Else-not-fits, After-fits, Start}
 
 -- What is left there.
 abbrev Left : Start → List ℕ → List ℕ → ℕ → Type 0
 Left s numbers = Rest (pick s.args.clock) s.args.buffer.now s.args.used numbers []
 
-parts : (c : LOST-After-fits2) → let clock = c.args.clock in Parts (pick clock) (2 ∷ clock ∷ []) [] (1 + c.type_size.result)
-parts (goal.at.LOST c).LOST-After-fits2 = pick_parts c.if-clock-gt4294967295.false c.type_size.ensures.0
+parts : (c : After-fits) → let clock = c.args.clock in Parts (pick clock) (2 ∷ clock ∷ []) [] (1 + c.size_of.result)
+parts c = pick_parts c.if-clock-gt4294967295.false c.size_of.ensures.0
 
 all : (c : Else-not-fits) → let s = c in Left (goal.at.Else-not-fits s).Start (2 ∷ s.args.clock ∷ []) s.args.buffer.now s.args.used
-all c = rest_all _ _ _ (parts (goal.at.Else-not-fits c).LOST-After-fits2) (sym c.fits2.ensures ∙ c.if-not-fits.false)
+all c = rest_all _ _ _ (parts (goal.at.Else-not-fits c).After-fits) (sym c.fits.ensures ∙ c.if-not-fits.false)
 
 kind-put : (c : After-put_number-at) → let s = c in Left (goal.at.After-put_number-at s).Start (s.args.clock ∷ []) c.put_number-at.new.buffer c.put_number-at.result
 kind-put c = rest_put _ _ _ (all (goal.at.After-put_number-at c).Else-not-fits) c.put_number-at.ensures
@@ -28,7 +28,7 @@ returns-then-clock-gt4294967295 c =
 
 pub returns-then-not-fits : goal.returns-then-not-fits
 returns-then-not-fits c =
-    let r = full _ _ _ (parts (goal.at.returns-then-not-fits c).LOST-After-fits2) (sym c.fits2.ensures ∙ c.if-not-fits.true) in
+    let r = full _ _ _ (parts (goal.at.returns-then-not-fits c).After-fits) (sym c.fits.ensures ∙ c.if-not-fits.true) in
     record { answer = r.0; bytes = r.1 }
 
 pub put_number-at-requires : goal.put_number-at-requires

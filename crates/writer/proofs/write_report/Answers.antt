@@ -6,20 +6,20 @@ use Rattle.journal.specs.Records.{report}
 use Rattle.writer.proofs.PartLaws.{Parts, Rest, full, rest_all, rest_next, rest_put, rest_none}
 use Rattle.writer.proofs.RecordLaws.{report_clock, report_entry, report_ticket, report_outcome_lem, report_parts}
 use Rattle.writer.proofs.write_report.Goals as goal
-use Rattle.writer.proofs.write_report.Goals.{After-put_number-at, After-put_number-at-2, After-put_number-at-3, After-put_number-at-4, Else-not-fits, LOST-After-fits2, Start}
+use Rattle.writer.proofs.write_report.Goals.{After-put_number-at, After-put_number-at-2, After-put_number-at-3, After-put_number-at-4, Else-not-fits, After-fits, Start}
 
 abbrev Left : Start → List ℕ → List ℕ → ℕ → Type 0
 Left s numbers = Rest (report s.args.clock s.args.entry s.args.ticket s.args.outcome) s.args.buffer.now s.args.used numbers []
 
-parts : (c : LOST-After-fits2)
- → Parts (report c.args.clock c.args.entry c.args.ticket c.args.outcome) (3 ∷ (c.args.clock ∷ c.args.entry ∷ c.args.ticket ∷ c.args.outcome ∷ [])) [] (1 + c.type_size.result + c.size_of-2.result + c.size_of-3.result + 1)
-parts (goal.at.LOST c).LOST-After-fits2 =
+parts : (c : After-fits)
+ → Parts (report c.args.clock c.args.entry c.args.ticket c.args.outcome) (3 ∷ (c.args.clock ∷ c.args.entry ∷ c.args.ticket ∷ c.args.outcome ∷ [])) [] (1 + c.size_of.result + c.size_of-2.result + c.size_of-3.result + 1)
+parts c =
     let r = c in
     report_parts r.if-clock-gt4294967295.false r.if-entry-gt4294967295.false r.if-ticket-gt4294967295.false r.if-outcome-gt1.false
-    c.type_size.ensures.0 c.size_of-2.ensures.0 c.size_of-3.ensures.0
+    c.size_of.ensures.0 c.size_of-2.ensures.0 c.size_of-3.ensures.0
 
 all : (c : Else-not-fits) → let s = c in Left (goal.at.Else-not-fits s).Start (3 ∷ (s.args.clock ∷ s.args.entry ∷ s.args.ticket ∷ s.args.outcome ∷ [])) s.args.buffer.now s.args.used
-all c = rest_all _ _ _ (parts (goal.at.Else-not-fits c).LOST-After-fits2) (sym c.fits2.ensures ∙ c.if-not-fits.false)
+all c = rest_all _ _ _ (parts (goal.at.Else-not-fits c).After-fits) (sym c.fits.ensures ∙ c.if-not-fits.false)
 
 kind-put : (c : After-put_number-at) → Left (goal.at.After-put_number-at c).Start (c.args.clock ∷ c.args.entry ∷ c.args.ticket ∷ c.args.outcome ∷ []) c.put_number-at.new.buffer c.put_number-at.result
 kind-put c = rest_put _ _ _ (all (goal.at.After-put_number-at c).Else-not-fits) c.put_number-at.ensures
@@ -57,7 +57,7 @@ returns-then-outcome-gt1 c =
 
 pub returns-then-not-fits : goal.returns-then-not-fits
 returns-then-not-fits c =
-    let r = full _ _ _ (parts (goal.at.returns-then-not-fits c).LOST-After-fits2) (sym c.fits2.ensures ∙ c.if-not-fits.true) in
+    let r = full _ _ _ (parts (goal.at.returns-then-not-fits c).After-fits) (sym c.fits.ensures ∙ c.if-not-fits.true) in
     record { answer = r.0; bytes = r.1 }
 
 pub put_number-at-requires : goal.put_number-at-requires

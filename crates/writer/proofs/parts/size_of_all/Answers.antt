@@ -9,7 +9,7 @@ pub size_of-size-requires : goal.size_of-size-requires
 size_of-size-requires c = small_at _ _ c.loop-i-test.true c.requires.1
 
 pub loop-i-preserved : goal.loop-i-preserved
-loop-i-preserved c = sized_next _ _ c.loop-i.invariant c.loop-i-test.true c.type_size.ensures.0 c.type_size.ensures.1
+loop-i-preserved c = sized_next _ _ c.loop-i.invariant c.loop-i-test.true c.size_of-size.ensures.0 c.size_of-size.ensures.1
 
 pub returns : goal.returns
 returns c = (sized_all _ _ c.loop-i.invariant (omega arith), omega arith)
