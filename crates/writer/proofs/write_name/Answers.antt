@@ -10,20 +10,23 @@ use Rattle.writer.proofs.write_name.Goals as goal
 use Rattle.writer.proofs.write_name.Goals.{After-put_number-at, After-put_number-at-2, After-put_number-at-3, Else-not-fits, After-fits, Start}
 
 -- What is left there.
+
 abbrev Left : Start → List ℕ → List ℕ → ℕ → Type 0
 Left s numbers = Rest (name s.args.destination s.args.word.now) s.args.buffer.now s.args.used numbers s.args.word.now
 
-parts : (c : After-fits) → let a = c.args in Parts (name a.destination a.word.now) (0 ∷ (c.args.destination ∷ length c.args.word.now ∷ [])) a.word.now (3 + length a.word.now)
+abbrev fields : Start → List ℕ
+fields s = s.args.destination ∷ length s.args.word.now ∷ []
+
+parts : (c : After-fits) → let a = c.args in Parts (name a.destination a.word.now) (0 ∷ fields (goal.at.After-fits c).Start) a.word.now (3 + length a.word.now)
 parts c = name_parts c.if-destination-gt31.false c.if-length-lt1.false c.if-length-gt63.false
 
-all : (c : Else-not-fits) → let s = c in Left (goal.at.Else-not-fits s).Start (0 ∷ (s.args.destination ∷ length s.args.word.now ∷ [])) s.args.buffer.now s.args.used
+all : (c : Else-not-fits) → let s = (goal.at.Else-not-fits c).Start in Left s (0 ∷ fields s) s.args.buffer.now s.args.used
 all c = rest_all _ _ _ (parts (goal.at.Else-not-fits c).After-fits) (sym c.fits.ensures ∙ c.if-not-fits.false)
 
-kind-put : (c : After-put_number-at) → Left (goal.at.After-put_number-at c).Start (c.args.destination ∷ length c.args.word.now ∷ []) c.put_number-at.new.buffer c.put_number-at.result
+kind-put : (c : After-put_number-at) → let s = (goal.at.After-put_number-at c).Start in Left s (fields s) c.put_number-at.new.buffer c.put_number-at.result
 kind-put c = rest_put _ _ _ (all (goal.at.After-put_number-at c).Else-not-fits) c.put_number-at.ensures
 
-destination-put : (c : After-put_number-at-2)
- → let s = c in Left (goal.at.After-put_number-at-2 s).Start (length s.args.word.now ∷ []) c.put_number-at-2.new.buffer c.put_number-at-2.result
+destination-put : (c : After-put_number-at-2) → let s = (goal.at.After-put_number-at-2 c).Start in Left s (length s.args.word.now ∷ []) c.put_number-at-2.new.buffer c.put_number-at-2.result
 destination-put c = rest_put _ _ _ (kind-put (goal.at.After-put_number-at-2 c).After-put_number-at) c.put_number-at-2.ensures
 
 length-put : (c : After-put_number-at-3) → Left (goal.at.After-put_number-at-3 c).Start [] c.put_number-at-3.new.buffer c.put_number-at-3.result
@@ -62,6 +65,6 @@ pub put_word-requires : goal.put_word-requires
 put_word-requires c = tail_fits _ _ _ (length-put (goal.at.put_word-requires c).After-put_number-at-3)
 
 pub returns : goal.returns
-returns c = let v = c in
-    let r = tail_put _ _ _ (length-put (goal.at.returns v).After-put_number-at-3) v.put_word.ensures in
+returns c =
+    let r = tail_put _ _ _ (length-put (goal.at.returns c).After-put_number-at-3) c.put_word.ensures in
     record { answer = r.0; bytes = r.1 }

@@ -15,10 +15,10 @@ Left s numbers = Rest (pick s.args.clock) s.args.buffer.now s.args.used numbers 
 parts : (c : After-fits) → let clock = c.args.clock in Parts (pick clock) (2 ∷ clock ∷ []) [] (1 + c.size_of.result)
 parts c = pick_parts c.if-clock-gt4294967295.false c.size_of.ensures.0
 
-all : (c : Else-not-fits) → let s = c in Left (goal.at.Else-not-fits s).Start (2 ∷ s.args.clock ∷ []) s.args.buffer.now s.args.used
+all : (c : Else-not-fits) → let s = (goal.at.Else-not-fits c).Start in Left s (2 ∷ s.args.clock ∷ []) s.args.buffer.now s.args.used
 all c = rest_all _ _ _ (parts (goal.at.Else-not-fits c).After-fits) (sym c.fits.ensures ∙ c.if-not-fits.false)
 
-kind-put : (c : After-put_number-at) → let s = c in Left (goal.at.After-put_number-at s).Start (s.args.clock ∷ []) c.put_number-at.new.buffer c.put_number-at.result
+kind-put : (c : After-put_number-at) → let s = (goal.at.After-put_number-at c).Start in Left s (s.args.clock ∷ []) c.put_number-at.new.buffer c.put_number-at.result
 kind-put c = rest_put _ _ _ (all (goal.at.After-put_number-at c).Else-not-fits) c.put_number-at.ensures
 
 pub returns-then-clock-gt4294967295 : goal.returns-then-clock-gt4294967295
@@ -38,6 +38,6 @@ pub put_number-requires : goal.put_number-requires
 put_number-requires c = rest_next _ _ _ (kind-put (goal.at.put_number-requires c).After-put_number-at)
 
 pub returns : goal.returns
-returns c = let v = c in
-    let r = rest_none _ _ _ (rest_put _ _ _ (kind-put (goal.at.returns v).After-put_number-at) v.put_number.ensures) in
+returns c =
+    let r = rest_none _ _ _ (rest_put _ _ _ (kind-put (goal.at.returns c).After-put_number-at) c.put_number.ensures) in
     record { answer = r.0; bytes = r.1 }

@@ -2,37 +2,43 @@
 use Prim.Native.Nat.{ℕ, ◌+◌}
 use mathlib.Core.Path.{sym, ◌∙◌}
 use mathlib.Core.List.{List, [], ◌∷◌}
-use Rattle.journal.specs.Records.{report}
+use Rattle.journal.specs.Records.{Event, report}
 use Rattle.writer.proofs.PartLaws.{Parts, Rest, full, rest_all, rest_next, rest_put, rest_none}
 use Rattle.writer.proofs.RecordLaws.{report_clock, report_entry, report_ticket, report_outcome_lem, report_parts}
 use Rattle.writer.proofs.write_report.Goals as goal
 use Rattle.writer.proofs.write_report.Goals.{After-put_number-at, After-put_number-at-2, After-put_number-at-3, After-put_number-at-4, Else-not-fits, After-fits, Start}
 
+-- What is left there.
+
+abbrev told : Start → Event
+told s = report s.args.clock s.args.entry s.args.ticket s.args.outcome
+
+abbrev fields : Start → List ℕ
+fields s = s.args.clock ∷ s.args.entry ∷ s.args.ticket ∷ s.args.outcome ∷ []
+
 abbrev Left : Start → List ℕ → List ℕ → ℕ → Type 0
-Left s numbers = Rest (report s.args.clock s.args.entry s.args.ticket s.args.outcome) s.args.buffer.now s.args.used numbers []
+Left s numbers = Rest (told s) s.args.buffer.now s.args.used numbers []
 
 parts : (c : After-fits)
- → Parts (report c.args.clock c.args.entry c.args.ticket c.args.outcome) (3 ∷ (c.args.clock ∷ c.args.entry ∷ c.args.ticket ∷ c.args.outcome ∷ [])) [] (1 + c.size_of.result + c.size_of-2.result + c.size_of-3.result + 1)
+    → let s = (goal.at.After-fits c).Start in Parts (told s) (3 ∷ fields s) [] (1 + c.size_of.result + c.size_of-2.result + c.size_of-3.result + 1)
 parts c =
-    let r = c in
-    report_parts r.if-clock-gt4294967295.false r.if-entry-gt4294967295.false r.if-ticket-gt4294967295.false r.if-outcome-gt1.false
+    report_parts c.if-clock-gt4294967295.false c.if-entry-gt4294967295.false c.if-ticket-gt4294967295.false c.if-outcome-gt1.false
     c.size_of.ensures.0 c.size_of-2.ensures.0 c.size_of-3.ensures.0
 
-all : (c : Else-not-fits) → let s = c in Left (goal.at.Else-not-fits s).Start (3 ∷ (s.args.clock ∷ s.args.entry ∷ s.args.ticket ∷ s.args.outcome ∷ [])) s.args.buffer.now s.args.used
+all : (c : Else-not-fits) → let s = (goal.at.Else-not-fits c).Start in Left s (3 ∷ fields s) s.args.buffer.now s.args.used
 all c = rest_all _ _ _ (parts (goal.at.Else-not-fits c).After-fits) (sym c.fits.ensures ∙ c.if-not-fits.false)
 
-kind-put : (c : After-put_number-at) → Left (goal.at.After-put_number-at c).Start (c.args.clock ∷ c.args.entry ∷ c.args.ticket ∷ c.args.outcome ∷ []) c.put_number-at.new.buffer c.put_number-at.result
+kind-put : (c : After-put_number-at) → let s = (goal.at.After-put_number-at c).Start in Left s (fields s) c.put_number-at.new.buffer c.put_number-at.result
 kind-put c = rest_put _ _ _ (all (goal.at.After-put_number-at c).Else-not-fits) c.put_number-at.ensures
 
 clock-put : (c : After-put_number-at-2)
  → let a = c.args in Left (goal.at.After-put_number-at-2 c).Start (a.entry ∷ a.ticket ∷ a.outcome ∷ []) c.put_number-at-2.new.buffer c.put_number-at-2.result
 clock-put c = rest_put _ _ _ (kind-put (goal.at.After-put_number-at-2 c).After-put_number-at) c.put_number-at-2.ensures
 
-entry-put : (c : After-put_number-at-3)
- → let s = c in Left (goal.at.After-put_number-at-3 s).Start (s.args.ticket ∷ s.args.outcome ∷ []) c.put_number-at-3.new.buffer c.put_number-at-3.result
+entry-put : (c : After-put_number-at-3) → let s = (goal.at.After-put_number-at-3 c).Start in Left s (s.args.ticket ∷ s.args.outcome ∷ []) c.put_number-at-3.new.buffer c.put_number-at-3.result
 entry-put c = rest_put _ _ _ (clock-put (goal.at.After-put_number-at-3 c).After-put_number-at-2) c.put_number-at-3.ensures
 
-ticket-put : (c : After-put_number-at-4) → let s = c in Left (goal.at.After-put_number-at-4 s).Start (s.args.outcome ∷ []) c.put_number-at-4.new.buffer c.put_number-at-4.result
+ticket-put : (c : After-put_number-at-4) → let s = (goal.at.After-put_number-at-4 c).Start in Left s (s.args.outcome ∷ []) c.put_number-at-4.new.buffer c.put_number-at-4.result
 ticket-put c = rest_put _ _ _ (entry-put (goal.at.After-put_number-at-4 c).After-put_number-at-3) c.put_number-at-4.ensures
 
 pub returns-then-clock-gt4294967295 : goal.returns-then-clock-gt4294967295
@@ -76,6 +82,6 @@ pub put_number-requires : goal.put_number-requires
 put_number-requires c = rest_next _ _ _ (ticket-put (goal.at.put_number-requires c).After-put_number-at-4)
 
 pub returns : goal.returns
-returns c = let v = c in
-    let r = rest_none _ _ _ (rest_put _ _ _ (ticket-put (goal.at.returns v).After-put_number-at-4) v.put_number.ensures) in
+returns c =
+    let r = rest_none _ _ _ (rest_put _ _ _ (ticket-put (goal.at.returns c).After-put_number-at-4) c.put_number.ensures) in
     record { answer = r.0; bytes = r.1 }

@@ -7,15 +7,10 @@ pub loop-i-init : goal.loop-i-init
 loop-i-init c = (omega arith, stored_no_number c.args.list.now _ _)
 
 pub put_number-p-requires : goal.put_number-p-requires
-put_number-p-requires c =
-    let t = c in
-    let pre = t.requires in
-    (small_at _ _ t.loop-i-test.true pre.0, next_room _ _ t.loop-i.invariant.1 t.loop-i-test.true pre.1)
+put_number-p-requires c = (small_at _ _ c.loop-i-test.true c.requires.0, next_room _ _ c.loop-i.invariant.1 c.loop-i-test.true c.requires.1)
 
 pub loop-i-preserved : goal.loop-i-preserved
-loop-i-preserved c =
-    let t = c in
-    (omega arith, stored_next _ _ t.loop-i.invariant.1 t.loop-i-test.true c.put_number-p.ensures)
+loop-i-preserved c = (omega arith, stored_next _ _ c.loop-i.invariant.1 c.loop-i-test.true c.put_number-p.ensures)
 
 pub shape_of-buffer : goal.shape_of-buffer
 shape_of-buffer c = stored_length c.loop-i.invariant.1
