@@ -62,9 +62,6 @@ module _ (list : List ℕ) (i : ℕ) (h : i < length list) where
   unfolding every_in
   small_next t l = rw take_next (every_append_both small (take i list) (get_or list i 0 ∷ []) t (and_both (lt-ltb (get_or list i 0) 4_294_967_296 (omega arith)) refl))
 
-pub small_all : (list : List ℕ) (i : ℕ) → length list ≤ i → every_in small (take i list) ≡ true → true ≡ every_in small list
-small_all list i h t = rw (take_all i list h) at (sym t)
-
 -- the bytes that the numbers before place i take
 pub record Sized (list : List ℕ) (size i : ℕ) : Type 0 where
   pub within : i ≤ length list

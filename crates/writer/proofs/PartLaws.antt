@@ -11,7 +11,6 @@ use borrow.Author.Tests.{leb-true, le-leb, ltb-true}
 use Rattle.laws.specs.Sequence.{every_in}
 use Rattle.laws.proofs.Bools.{if_true, if_false, and_left, and_right}
 use Rattle.journal.specs.declared.Written.{Written}
-use Rattle.journal.specs.declared.Written.TheVariants
 use Rattle.journal.specs.Numbers.{small}
 use Rattle.journal.specs.Records.{Event}
 use Rattle.journal.specs.Writes.{number_bytes, numbers_bytes, bytes_of, writable, put, Writing, refusing, fitted, writing_of}

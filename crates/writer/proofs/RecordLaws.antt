@@ -12,7 +12,6 @@ use Rattle.laws.proofs.Bools.{if_false, and_both, and_left_false, and_right_fals
 use Rattle.rules.specs.Setup.{within}
 use Rattle.rules.proofs.RangeFacts.{within_of}
 use Rattle.journal.specs.declared.Written.{Written}
-use Rattle.journal.specs.declared.Written.TheVariants
 use Rattle.journal.specs.Numbers.{small}
 use Rattle.journal.specs.Records.{Event, name, job, pick, report, name_number, job_count, report_outcome}
 use Rattle.journal.specs.Writes.{number_bytes, numbers_bytes, bytes_of, writable, writing_of}

@@ -32,7 +32,7 @@ kind-put : (c : After-put_number-at) → let s = (goal.at.After-put_number-at c)
 kind-put c = rest_put _ _ _ (all (goal.at.After-put_number-at c).Else-not-fits) c.put_number-at.ensures
 
 clock-put : (c : After-put_number-at-2)
- → let a = c.args in Left (goal.at.After-put_number-at-2 c).Start (a.entry ∷ a.ticket ∷ a.outcome ∷ []) c.put_number-at-2.new.buffer c.put_number-at-2.result
+    → let a = c.args in Left (goal.at.After-put_number-at-2 c).Start (a.entry ∷ a.ticket ∷ a.outcome ∷ []) c.put_number-at-2.new.buffer c.put_number-at-2.result
 clock-put c = rest_put _ _ _ (kind-put (goal.at.After-put_number-at-2 c).After-put_number-at) c.put_number-at-2.ensures
 
 entry-put : (c : After-put_number-at-3) → let s = (goal.at.After-put_number-at-3 c).Start in Left s (s.args.ticket ∷ s.args.outcome ∷ []) c.put_number-at-3.new.buffer c.put_number-at-3.result

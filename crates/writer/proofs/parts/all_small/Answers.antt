@@ -1,8 +1,7 @@
 use mathlib.Core.Path.{refl}
-use mathlib.Core.Bool.{true}
 use native.Mathlib.Omega.{arith}
 use Rattle.laws.specs.Sequence.{every_in}
-use Rattle.writer.proofs.NumberLaws.{large_at, small_next, small_all}
+use Rattle.writer.proofs.NumberLaws.{large_at, small_next}
 use Rattle.writer.proofs.parts.all_small.Goals as goal
 
 pub loop-i-init : goal.loop-i-init
@@ -14,6 +13,3 @@ returns-then-list-i-gt4294967295 c = large_at _ _ c.loop-i-test.true c.if-list-i
 
 pub loop-i-preserved : goal.loop-i-preserved
 loop-i-preserved c = (omega arith, small_next _ _ c.loop-i-test.true c.loop-i.invariant.1 (omega arith))
-
-pub returns : goal.returns
-returns c = small_all _ _ c.loop-i-test.false c.loop-i.invariant.1

@@ -1,5 +1,5 @@
 use native.Mathlib.Omega.{arith}
-use Rattle.writer.proofs.StoredLaws.{stored_length, left_start, left_room, left_more, left_last}
+use Rattle.writer.proofs.StoredLaws.{left_start, left_room, left_more, left_last}
 use Rattle.writer.proofs.parts.put_number.Goals as goal
 
 pub loop-y-init : goal.loop-y-init
@@ -13,9 +13,6 @@ loop-y-preserved c = left_more _ _ _ _ _ c.loop-y.invariant (omega arith)
 
 pub bounds-buffer-p-2 : goal.bounds-buffer-p-2
 bounds-buffer-p-2 c = left_room _ _ _ _ _ c.loop-y.invariant
-
-pub shape_of-buffer : goal.shape_of-buffer
-shape_of-buffer c = stored_length (left_last _ _ _ _ _ c.loop-y.invariant (omega arith))
 
 pub returns : goal.returns
 returns c = left_last _ _ _ _ _ c.loop-y.invariant (omega arith)
