@@ -16,7 +16,7 @@ use Rattle.laws.proofs.Joined.{and_4}
 use Rattle.rules.specs.Setup.{within}
 use Rattle.rules.proofs.RangeFacts.{within_facts}
 use Rattle.rules.specs.State.{at}
-use Rattle.journal.specs.Numbers.{Number, number, above, groups_at, small, shortest, well_written, number_at}
+use Rattle.journal.specs.Numbers.{number, above, groups_at, small, shortest, well_written, number_at}
 use Rattle.journal.specs.Records.{Event, name, job, pick, report, end, Found, event, name_number, name_length, job_count, report_outcome}
 use Rattle.journal.specs.Records.{ranged, field_of, field, name_from, name_fields, job_from, job_fields, pick_fields, report_fields, fields_of, read_at}
 use Rattle.journal.specs.Journals.{then_read, journal_from, journal_of}

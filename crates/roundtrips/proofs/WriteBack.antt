@@ -13,8 +13,8 @@ use Rattle.laws.proofs.Bools.{if_cases, and_both, and_right}
 use Rattle.laws.proofs.Sequence.{every_append_both}
 use Rattle.rules.specs.Setup.{within}
 use Rattle.journal.specs.Numbers.{Number, number, fault, small, number_at}
-use Rattle.journal.specs.Records.{name, job, pick, report, end, refused, Found, event, closed, name_number, name_length, job_count, report_outcome}
-use Rattle.journal.specs.Records.{ranged, field_of, field, name_from, name_fields, job_from, job_fields, pick_fields, report_fields, fields_of, read_at}
+use Rattle.journal.specs.Records.{name, end, refused, Found, event, closed, name_number, name_length, job_count, report_outcome}
+use Rattle.journal.specs.Records.{any_size, ranged, field_of, field, name_from, name_fields, job_from, job_fields, pick_fields, report_fields, fields_of, read_at}
 use Rattle.journal.specs.Journals.{Journal, then_read, journal_from, journal_of}
 use Rattle.journal.specs.Writes.{number_bytes, numbers_bytes, bytes_of, journal_bytes, writable}
 use Rattle.journal.proofs.Groups.{numbers_append}
@@ -88,7 +88,7 @@ module _ (bytes : List ℕ) (start : ℕ) where
   job_from_back clock t count c u n dests zero offset s e b =
       let all : length dests ≡ count = omega (arith, e) in rw all (and_both (and_both (and_both c u) n) s, b)
   job_from_back clock t count c u n dests (suc more) offset s e b =
-      then_back (1 ∷ clock ∷ t ∷ count ∷ dests) offset _ _ b (λ d next q r b.
+      then_back (1 ∷ clock ∷ t ∷ count ∷ dests) offset any_size _ b (λ d next q r b.
       let every : every_in small (dests ++ (d ∷ [])) ≡ true = every_append_both small dests (d ∷ []) s (and_both q refl) in
       job_from_back clock t count c u n (dests ++ (d ∷ [])) more next every (rw length-append (omega (arith, e))) b)
 

@@ -3,7 +3,6 @@
 use Rattle.std.specs.Prelude.{ℕ, ◌≤◌, ◌≡◌, Bool, true, ◌&&◌, List, [], ◌∷◌, ◌++◌, length, take, ltb}
 use Rattle.laws.specs.Sequence.{every_in}
 use Rattle.journal.specs.declared.Written.{Written}
-use Rattle.journal.specs.declared.Written.TheVariants
 use Rattle.journal.specs.Records.{Event, end}
 use Rattle.journal.specs.Journals.{journal_of}
 use Rattle.journal.specs.Writes.{journal_bytes, writable, Writing, writing_of}
