@@ -1,0 +1,16 @@
+-- The record is the one that the numbers say. Assumes nothing.
+use Rattle.record.proofs.LineLaws.{job_short, job_other, job_said}
+use Rattle.record.proofs.DoneLaws.{none_done, says_done}
+use Rattle.record.proofs.write_job.Goals as goal
+
+pub returns-then-k-lt3 : goal.returns-then-k-lt3
+returns-then-k-lt3 c = none_done (job_short _ c.if-k-lt3.true)
+
+pub returns-then-words-k : goal.returns-then-words-k
+returns-then-words-k c = none_done (job_other _ c.if-k-lt3.false c.if-words-k.true)
+
+pub returns : goal.returns
+returns c =
+    let b = c in
+    let a = b in
+    says_done _ _ (job_said _ a.if-k-lt3.false b.if-words-k.false) a.requires c.write_job.ensures c.recorded_as.ensures
