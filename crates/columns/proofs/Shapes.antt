@@ -56,3 +56,7 @@ shaped s g =
       jobs = record { lengths = job_lengths s g };
       entries = record { kind = search rules; job = search rules; destination = search rules; ticket = search rules };
     }
+
+-- a transport's list, whatever stands past the end
+pub same_list : (w : State) (t : ℕ) → length w.queues ≡ 4 → t < 4 → get_or w.queues t (record { jobs = []; count = 0 }) ≡ get_or w.queues t zero_list
+same_list w t e h = get_d_default w.queues t (record { jobs = []; count = 0 }) zero_list (subst (λ n. t < n) (sym e) h)

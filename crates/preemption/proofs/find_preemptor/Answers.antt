@@ -3,8 +3,8 @@ use Prim.Native.Nat.{suc, ◌*◌, ◌≤◌}
 use mathlib.Core.Path.{◌≡◌, sym, ◌∙◌, ap, ap₂, subst}
 use mathlib.Core.Bool.{true}
 use native.Mathlib.Nat.{mul-le-mul, lt_of_le_of_lt, lt_of_lt_of_le, le_trans, le_of_lt}
-use borrow.Author.Rules.{zero≤}
 use lib.Dec.{lit<, lit≤}
+use native.Mathlib.Omega.{arith}
 use mir.Syntax.{w64}
 use mir.Val.{to_z, of_z}
 use mir.Facts.{to_z-of_z}
@@ -28,7 +28,7 @@ z-is : (c : After-slot_credit-a)
 z-is c =
     let s = c.args in
     let y = c.wide-at.ensures.0 in
-    to_z-of_z (record { sfits = c.slot_credit-a.type-inv })
+    to_z-of_z {w = w64} (record { sfits = c.slot_credit-a.type_inv })
     ∙ c.slot_credit-a.ensures
     ∙ ap₂ (credit s.g.cost) (c.wide16.ensures.0 ∙ ap (at s.jobs.picked) y) (c.wide16-2.ensures.0 ∙ ap (at s.jobs.sold) y)
 
@@ -72,7 +72,7 @@ pub returns-then-cost-eq0 : goal.returns-then-cost-eq0
 returns-then-cost-eq0 c =
     let x = c.args in
     record {
-      link = zero≤;
+      link = omega arith;
       preempts = λ s j a g r. preempts_off s x.jobs x.g x.waits.now (ready_in x.pairs.now x.room.now) x.time x.t x.y j g r c.if-cost-eq0.true;
     }
 
@@ -106,7 +106,7 @@ pub returns-then-not-has_credit : goal.returns-then-not-has_credit
 returns-then-not-has_credit c =
     let w = c in
     let x = w.args in record {
-      link = zero≤;
+      link = omega arith;
       preempts = λ s j a g r. preempts_broke s x.jobs x.g x.waits.now (ready_in x.pairs.now x.room.now) x.time x.t x.y j g r
           _ (z-is (goal.at.returns-then-not-has_credit w).After-slot_credit-a) (sym c.has_credit.ensures ∙ not-true c.has_credit.result c.if-not-has_credit.true-raw);
     }
@@ -131,7 +131,7 @@ returns-then-wide16-g c =
     let w = c in
     let x = w.args in
     let e : c.wide16-3.result ≡ at x.jobs.n x.y = c.wide16-3.ensures.0 ∙ ap (at x.jobs.n) w.wide-at.ensures.0 in record {
-      link = zero≤;
+      link = omega arith;
       preempts = λ s j a g r. preempts_short s x.jobs x.g x.waits.now (ready_in x.pairs.now x.room.now) x.time x.t x.y j g r
           (less_by _ _ _ e c.if-wide16-g.true);
     }
@@ -161,7 +161,7 @@ best_candidate-found-requires c = c.requires.list
 pub returns-then-best-eq0 : goal.returns-then-best-eq0
 returns-then-best-eq0 c =
     let x = c.args in record {
-      link = zero≤;
+      link = omega arith;
       preempts = λ s j a g r. preempts_none s x.jobs x.g x.waits.now (ready_in x.pairs.now x.room.now)
           x.time x.t x.y j g r c.best_candidate-found.result.link (best-read (goal.at.returns-then-best-eq0 c).After-best_candidate-found s j a g r) c.if-best-eq0.true;
     }
@@ -185,7 +185,7 @@ returns-then-not-pays_for c =
     let b = c in
     let k = c in
     let x = b.args in record {
-      link = zero≤;
+      link = omega arith;
       preempts = λ s j a g r. preempts_unpaid s x.jobs x.g x.waits.now (ready_in x.pairs.now x.room.now) x.time x.t x.y j g r _
           (z-is (goal.at.returns-then-not-pays_for b).After-slot_credit-a) b.best_candidate-found.result.link k.wide-k.result (best-read (goal.at.returns-then-not-pays_for b).After-best_candidate-found s j a g r) (link-read (goal.at.returns-then-not-pays_for k).After-wide-k) k.wide-k.ensures.1
           (sym (pays-read (goal.at.returns-then-not-pays_for c).After-pays_for) ∙ not-true c.pays_for.result c.if-not-pays_for.true-raw);
