@@ -3,9 +3,7 @@ use Prim.Native.Nat.{ℕ, zero, suc, ◌-◌}
 use mathlib.Core.Path.{◌≡◌, refl}
 use native.Mathlib.Omega.{arith}
 use Rattle.choice.specs.Choosing.{picked_from}
-use borrow.Author.Rules.{rules}
-use Rattle.choice.proofs.picked_from.Statement.{statement}
-use Rattle.choice.proofs.picked_from.Tie as tie
+use Rattle.choice.proofs.picked_from.Goals as goal
 
 none : (y k : ℕ) → k ≡ 0 → y ≡ picked_from y k
 unfolding picked_from
@@ -16,14 +14,8 @@ unfolding picked_from
 some y zero ne = absurd (ne refl)
 some y (suc x) ne = omega arith
 
-returns : tie.Need-returns
-returns c = none _ _ c.if1.true
+pub returns-then-link-eq0 : goal.returns-then-link-eq0
+returns-then-link-eq0 c = none _ _ c.if-link-eq0.true
 
-sub-result : tie.Need-overflow-sub-result
-sub-result c = search rules
-
-returns-2 : tie.Need-returns-2
-returns-2 c = some _ _ c.if1.false
-
-pub picked-from-spec : {M : Type 1} → statement M
-picked-from-spec = tie.close (tie.spec returns sub-result returns-2)
+pub returns : goal.returns
+returns c = some _ _ c.if-link-eq0.false
