@@ -46,13 +46,13 @@ module _ (e : Event) (b : List ℕ) where
 
   pub says_done :
       {line : Line} {a : Written} {z : List ℕ} {r : Recorded}
-      → line ≡ says e → 1300 ≤ length b → (a ≡ (writing_of e b 0).answer) × (z ≡ (writing_of e b 0).buffer) → r ≡ recorded_as a → Done line r z
+      → line ≡ says e → 1300 ≤ length b → a ≡ (writing_of e b 0).answer → z ≡ (writing_of e b 0).buffer → r ≡ recorded_as a → Done line r z
   unfolding refusing bytes_for done_with size_of if◌then◌else◌
-  says_done {z} {r} l h w o = done_as l (case_bool (writable e)
+  says_done {z} {r} l h v w o = done_as l (case_bool (writable e)
       (λ t.
-      let u : r ≡ Recorded.Bytes (length (bytes_of e)) = o ∙ ap recorded_as (w.0 ∙ ap (λ x. x.answer) (used h t)) in
-      let v : z ≡ bytes_of e ++ drop (length (bytes_of e)) b = w.1 ∙ ap (λ x. x.buffer) (used h t) in
-      record { answer = rw (u, t) refl; bytes = rw (u, v, t) (take-append_seam (bytes_of e) _) })
+      let u : r ≡ Recorded.Bytes (length (bytes_of e)) = o ∙ ap recorded_as (v ∙ ap (λ x. x.answer) (used h t)) in
+      let x : z ≡ bytes_of e ++ drop (length (bytes_of e)) b = w ∙ ap (λ x. x.buffer) (used h t) in
+      record { answer = rw (u, t) refl; bytes = rw (u, x, t) (take-append_seam (bytes_of e) _) })
       (λ f.
-      let u : r ≡ Recorded.Refused 14 = o ∙ ap recorded_as (w.0 ∙ ap (λ x. x.answer) (refused f)) in
+      let u : r ≡ Recorded.Refused 14 = o ∙ ap recorded_as (v ∙ ap (λ x. x.answer) (refused f)) in
       record { answer = rw (u, f) refl; bytes = rw (u, f) refl }))

@@ -4,15 +4,12 @@ use mathlib.Core.Path.{◌≡◌, refl, sym, ◌∙◌, ap}
 use mathlib.Core.Bool.{Bool}
 use mathlib.Core.List.{List, [], ◌∷◌}
 use native.Mathlib.Omega.{arith}
-use native.Mathlib.Nat.{le_refl}
 use lib.ListN.{length, get_or, take, drop, length-drop}
 use lib.Seq.{take_all, take-nil, drop-nil, drop-drop, get_or-drop, length-take-le}
 use lib.Dec.{eqb}
 use borrow.Author.Tests.{not-true, not-false}
 use Rattle.laws.specs.Sequence.{up_to}
 use Rattle.laws.proofs.Bools.{if_true, if_false}
-use Rattle.bytes.specs.Bytes.{slice, index_of}
-use Rattle.lines.proofs.FirstLaws.{first_byte}
 use Rattle.lines.specs.Words.{FirstFrom, is_byte, not_blank}
 use Rattle.record.specs.Lines.{unblanked, first_word, behind}
 
@@ -48,8 +45,8 @@ pub record FirstWord (s : List ℕ) (p end : ℕ) : Type 0 where
   pub ends : FirstFrom (is_byte s 32) p (length s) end
 
 -- as the code finds it
-pub found_word : (s : List ℕ) (p end : ℕ) → FirstFrom (not_blank s) 0 (length s) p → end ≡ p + index_of 32 (slice p (length s) s) → FirstWord s p end
-found_word s p end f e = record { begins = f; ends = first_byte s 32 p (length s) f.end (le_refl _) e }
+pub found_word : (s : List ℕ) (p end : ℕ) → FirstFrom (not_blank s) 0 (length s) p → FirstFrom (is_byte s 32) p (length s) end → FirstWord s p end
+found_word s p end f e = record { begins = f; ends = e }
 
 module _ (s : List ℕ) (p end : ℕ) (w : FirstWord s p end) where
   abbrev word : List ℕ

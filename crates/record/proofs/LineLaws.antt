@@ -16,16 +16,12 @@ use Rattle.rules.specs.State.{at}
 use Rattle.lines.specs.declared.text.Number.{Number}
 use Rattle.lines.specs.Names.{job_name, pick_name, report_name}
 use Rattle.lines.specs.Words.{words_of, same_bytes, is_number, value_of, number_of, numbers_of, FirstFrom, not_blank, Read}
-use Rattle.lines.proofs.WordLaws.{blank_behind, words_first, same_is}
+use Rattle.lines.proofs.WordLaws.{blank_behind, words_first}
 use Rattle.lines.proofs.ReadingLaws.{number_is, number_not, words_none, skipped}
 use Rattle.journal.specs.Records.{name, job, pick, report}
 use Rattle.record.specs.Lines.{Line, nothing, none, says, name_name, unblanked}
 use Rattle.record.specs.Lines.{name_line, job_line, pick_line, report_line, numbers_line, words_line, line_of, line_in}
 use Rattle.record.proofs.FrontLaws.{to_end, unblanked_is, FirstWord, word_long, first_word_is, behind_is}
-
--- Two words are the same, or not, as the kit's test says.
-pub same_told : {a b : List ℕ} {r t : Bool} → (r ≡ true → a ≡ b) × (a ≡ b → r ≡ true) → r ≡ t → same_bytes a b ≡ t
-same_told h e = sym (same_is _ _ _ h) ∙ e
 
 -- The numbers of a word.
 

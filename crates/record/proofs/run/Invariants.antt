@@ -5,8 +5,5 @@ use lib.ListN.{length}
 use Rattle.record.proofs.run.Given as goal
 
 abbrev pub invariant-loop-before : goal.invariant-loop-before
-invariant-loop-before l =
+invariant-loop-before g l =
     (0 < length l.line) × (length l.line ≡ length l.initial.line) × (length l.words ≡ length l.initial.words) × (l.l.next ≤ l.l.have) × (l.l.have ≤ length l.line)
-
-abbrev pub decreases-loop-before : goal.decreases-loop-before
-decreases-loop-before l = 18446744073709551615 - l.number

@@ -11,6 +11,5 @@ returns-then-words-k c = none_done (job_other _ c.if-k-lt3.false c.if-words-k.tr
 
 pub returns : goal.returns
 returns c =
-    let b = c in
-    let a = b in
-    says_done _ _ (job_said _ a.if-k-lt3.false b.if-words-k.false) a.requires c.write_job.ensures c.recorded_as.ensures
+    says_done _ _ (job_said _ c.if-k-lt3.false c.if-words-k.false) c.requires c.write_job.ensures.answer c.write_job.ensures.bytes
+    c.recorded_as.ensures

@@ -6,8 +6,9 @@ use Rattle.record.proofs.DoneLaws.{none_done, says_done}
 use Rattle.record.proofs.write_name.Goals as goal
 use Rattle.record.proofs.write_name.Goals.{After-find-end}
 
+-- the number, from where its end is found
 word : (c : After-find-end) → FirstWord c.args.line.now c.skip_blanks-at.result c.find-end.result
-word c = found_word _ _ _ c.skip_blanks-at.ensures c.find-end.ensures.0
+word c = found_word _ _ _ c.skip_blanks-at.ensures c.find-end.ensures
 
 pub returns-then-end-at : goal.returns-then-end-at
 returns-then-end-at c = none_done (name_empty _ _ _ (word (goal.at.returns-then-end-at c).After-find-end) c.if-end-at.true)
@@ -17,14 +18,9 @@ returns-then-n-end c = none_done (name_ends _ _ _ (word (goal.at.returns-then-n-
 
 pub returns-in_default : goal.returns-in_default
 returns-in_default c =
-    let r = c in
-    none_done (name_not _ _ _ (word (goal.at.returns-in_default r).After-find-end) (sym r.read_number.ensures ∙ c.in_default.is))
+    none_done (name_not _ _ _ (word (goal.at.returns-in_default c).After-find-end) (sym c.read_number.ensures ∙ c.in_default.is))
 
 pub returns : goal.returns
 returns c =
-    let w = c in
-    let r = w in
-    let b = r in
-    let f = b in
-    says_done _ _ (name_said _ _ _ (word (goal.at.returns f).After-find-end) _ b.if-end-at.false b.if-n-end.false (sym r.read_number.ensures ∙ r.in-Is.is))
-    f.requires w.write_name.ensures c.recorded_as.ensures
+    says_done _ _ (name_said _ _ _ (word (goal.at.returns c).After-find-end) _ c.if-end-at.false c.if-n-end.false (sym c.read_number.ensures ∙ c.in-Is.is))
+    c.requires c.write_name.ensures.answer c.write_name.ensures.bytes c.recorded_as.ensures

@@ -7,6 +7,4 @@ pub returns-then-words-ne1 : goal.returns-then-words-ne1
 returns-then-words-ne1 c = none_done (pick_none _ c.if-words-ne1.true)
 
 pub returns : goal.returns
-returns c =
-    let a = c in
-    says_done _ _ (pick_said _ a.if-words-ne1.false) a.requires c.write_pick.ensures c.recorded_as.ensures
+returns c = says_done _ _ (pick_said _ c.if-words-ne1.false) c.requires c.write_pick.ensures.answer c.write_pick.ensures.bytes c.recorded_as.ensures

@@ -8,5 +8,4 @@ returns-then-words-ne4 c = none_done (report_none _ c.if-words-ne4.true)
 
 pub returns : goal.returns
 returns c =
-    let a = c in
-    says_done _ _ (report_said _ a.if-words-ne4.false) a.requires c.write_report.ensures c.recorded_as.ensures
+    says_done _ _ (report_said _ c.if-words-ne4.false) c.requires c.write_report.ensures.answer c.write_report.ensures.bytes c.recorded_as.ensures
