@@ -1,9 +1,9 @@
--- The line that was handed out last stays within the buffer, whose length stays. The measure is the turns that are left. Assumes nothing.
-use Prim.Native.Nat.{◌-◌, ◌≤◌, ◌<◌}
+-- The line that was handed out last stays within the buffer, whose length stays. Assumes nothing.
+use Prim.Native.Nat.{◌≤◌}
 use mathlib.Core.Path.{◌≡◌}
 use lib.ListN.{length}
 use Rattle.record.proofs.run.Given as goal
 
 abbrev pub invariant-loop-before : goal.invariant-loop-before
 invariant-loop-before g l =
-    (0 < length l.line) × (length l.line ≡ length l.initial.line) × (length l.words ≡ length l.initial.words) × (l.l.next ≤ l.l.have) × (l.l.have ≤ length l.line)
+    (length l.line ≡ length l.initial.line) × (l.l.next ≤ l.l.have) × (l.l.have ≤ length l.line)

@@ -1,7 +1,5 @@
 -- The line is nothing, no record, a name, or the record of its numbers. Assumes nothing.
 use mathlib.Core.Path.{sym, ◌∙◌}
-use native.Mathlib.Omega.{arith}
-use lib.Seq.{length-take-le}
 use borrow.Author.Tests.{not-true, not-false}
 use Rattle.record.proofs.FrontLaws.{FirstWord, found_word}
 use Rattle.record.proofs.LineLaws.{line_comment, line_empty, line_name, line_none, line_numbers, mode_none, mode_nothing, mode_whole}
@@ -45,9 +43,6 @@ returns-then-not-got c =
     (line_none _ _ _ (word (goal.at.returns-then-not-got c).After-find-end) c.if-n-at.false c.if-line-eq35.false (sym c.same.ensures ∙ c.if-same.false)
     _ _ _ c.read_numbers-got.ensures (not-true _ c.if-not-got.true)))) in
     record { done = r.0; bytes = r.1 }
-
-pub slice_bounds-write_numbers-end-3 : goal.slice_bounds-write_numbers-end-3
-slice_bounds-write_numbers-end-3 c = sym (length-take-le _ _ (omega arith))
 
 pub returns : goal.returns
 returns c =
