@@ -159,8 +159,8 @@ next_place-next-requires c =
     let j = job-found (goal.at.next_place-next-requires f).After-picked_from-job in
     let s = (right (goal.at.next_place-next-requires f).After-left_waiting-waits).jobs f.picked_from-job.result j.0 j.1 in (
       j.0,
-      subst (λ x. at w.jobs-1.places x ≤ 32) (sym i.wide-from.ensures.0) s.places,
-      subst (λ x. at w.jobs-1.turn x ≤ at w.jobs-1.places x) (sym i.wide-from.ensures.0) s.turn,
+      subst (λ x. at w.jobs.places x ≤ 32) (sym i.wide-from.ensures.0) s.places,
+      subst (λ x. at w.jobs.turn x ≤ at w.jobs.places x) (sym i.wide-from.ensures.0) s.turn,
     )
 
 pub returns : goal.returns
