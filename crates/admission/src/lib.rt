@@ -2,6 +2,7 @@
 // which destinations are dead, whether a job's destinations are its transport's, how many of them would wait, and which number and how many places are
 // free.
 #![tactic(auto)]
+
 ghost use Rattle.std.specs.Prelude.{◌≡◌, false, not, ℕ, ◌≤◌, ◌<◌, length, get_or};
 ghost use Rattle.laws.specs.Range.{table_to, count_to, first_to};
 ghost use Rattle.laws.specs.Sequence.{every_in};

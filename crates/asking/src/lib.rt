@@ -1,5 +1,6 @@
 // The two calls that only ask: about a job, and for the board text. The state is the caller's, as it was.
 #![tactic(auto)]
+
 ghost use Rattle.std.specs.Prelude.{◌≡◌};
 ghost use Rattle.rules.specs.Calls.{ask_reply, board_reply};
 ghost use Rattle.rules.specs.Gave.{ask_gave, board_gave};

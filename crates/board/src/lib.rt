@@ -1,5 +1,6 @@
 // Document 01, "Board text".
 #![tactic(auto)]
+
 ghost use Rattle.std.specs.Prelude.{◌≡◌, ◌≤◌, length};
 ghost use Rattle.rules.specs.Board.{clock_line, health_text, destination_line, text_of};
 ghost use Rattle.board.specs.Text.{live_text, dead_text};

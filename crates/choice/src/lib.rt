@@ -1,5 +1,6 @@
 // What a pick reads, computed fast: document 01, "Picking and preemption". Nothing is written here; the pick writes.
 #![tactic(auto)]
+
 ghost use Rattle.std.specs.Prelude.{◌≡◌, ◌≤◌};
 ghost use Rattle.rules.specs.Sizes.{last_second};
 ghost use Rattle.rules.specs.SoundFacts.{Sound};

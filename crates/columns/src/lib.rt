@@ -1,6 +1,7 @@
 // Columns of the state: numbers of them made wide, read and written. Each function borrows one column, so that a call changes its working copy of the
 // state in place.
 #![tactic(auto)]
+
 ghost use Rattle.std.specs.Prelude.{◌≡◌, true, ◌+◌, ◌<◌, ◌≤◌, set};
 ghost use Rattle.rules.specs.State.{at};
 

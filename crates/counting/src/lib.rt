@@ -1,5 +1,6 @@
 // Document 01, "Sound means": each used entry, and the counts of the entries that the other clauses speak of. One pass over the entries, with tables.
 #![tactic(auto)]
+
 ghost use Rattle.std.specs.Prelude.{◌≡◌, true, false, ℕ, ◌+◌, ◌*◌, ◌≤◌, ◌<◌, length};
 ghost use Rattle.laws.specs.Range.{sum_to};
 ghost use Rattle.rules.specs.State.{at};

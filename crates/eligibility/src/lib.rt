@@ -1,5 +1,6 @@
 // Document 01, "An entry is eligible if ..": what waits, and where there is room. Tables that a byte indexes have 256 places, so that no number has to be tested first.
 #![tactic(auto)]
+
 ghost use Rattle.std.specs.Prelude.{◌≡◌, true, false, ◌&&◌, ℕ, ◌+◌, ◌-◌, ◌<◌, ◌≤◌, get_or, ltb};
 ghost use Rattle.laws.specs.Bools.{if◌then◌else◌};
 ghost use Rattle.laws.specs.Range.{any_to, first_to};

@@ -1,5 +1,6 @@
 // Fields of a record: numbers in groups of seven bits, each in its range.
 #![tactic(auto)]
+
 ghost use Rattle.std.specs.Prelude.{◌≡◌, ◌<◌};
 ghost use Rattle.rules.specs.Setup.{within};
 ghost use Rattle.journal.specs.Numbers.{number, fault, number_at};

@@ -1,5 +1,6 @@
 // A journal of events (A1): what a record holds, what stands at an offset, and what a writer answers (A8).
 #![tactic(auto)]
+
 use rules::Outcome;
 
 // A record: a kind, and its fields. Of a name its length stands here and its bytes in the journal; of a job how many

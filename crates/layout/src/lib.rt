@@ -1,5 +1,6 @@
 // The numbers of `run`: how they are read as calls, and in rows.rt how an answer is written. The layout is specs/Layout.antt, and as a table docs/RUN.md.
 #![tactic(auto)]
+
 pub mod rows;
 
 ghost use Rattle.std.specs.Prelude.{◌≤◌, ◌<◌, ◌≡◌, length};

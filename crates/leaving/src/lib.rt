@@ -1,5 +1,6 @@
 // Document 01, "Every job then without a waiting or busy entry leaves": who stays after a report, and who adopts the children of those that leave.
 #![tactic(auto)]
+
 ghost use Rattle.std.specs.Prelude.{◌≡◌, true, false, ℕ, ◌<◌, get_or, eqb};
 ghost use Rattle.laws.specs.Range.{any_to, table_to};
 ghost use Rattle.rules.specs.State.{at};

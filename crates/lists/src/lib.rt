@@ -1,5 +1,6 @@
 // Lists of job numbers, by value. Each is built anew, so that the places behind its count are zeros whatever stood there.
 #![tactic(auto)]
+
 ghost use Rattle.std.specs.Prelude.{◌≡◌, false, [], ◌∷◌, ◌++◌, ◌≤◌, ◌<◌, length, get_or};
 ghost use Rattle.laws.specs.Sequence.{keep, times_in, move_before};
 ghost use Rattle.rules.specs.State.{list_of, listed};

@@ -1,5 +1,6 @@
 // One call of `run`, read from its numbers and made.
 #![tactic(auto)]
+
 ghost use Rattle.std.specs.Prelude.{◌+◌, ◌≤◌, ◌≡◌, [], length, take, drop};
 ghost use Rattle.rules.specs.Calls.{job_reply, pick_reply, report_reply, ask_reply, board_reply};
 ghost use Rattle.layout.specs.Layout.{row_length, word, call_of};

@@ -1,5 +1,6 @@
 // What a new job is made of: its destinations parted, the places of its entries and their columns, its order, and its place in the lists.
 #![tactic(auto)]
+
 ghost use Rattle.std.specs.Prelude.{◌≡◌, List, [], ◌∷◌, ◌++◌, ℕ, ◌*◌, ◌≤◌, ◌<◌, length};
 ghost use Rattle.std.proofs.Math.Seq.{paste};
 ghost use Rattle.laws.specs.Range.{count_to, chosen_to};

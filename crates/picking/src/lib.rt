@@ -1,5 +1,6 @@
 // The pick: the next entry to deliver. Document 01, "Picking and preemption". What is read of the state is the crate `choice`; here it is written.
 #![tactic(auto)]
+
 ghost use Rattle.std.specs.Prelude.{◌≡◌, ◌+◌, ◌%◌};
 ghost use Rattle.rules.specs.Sizes.{tickets};
 ghost use Rattle.rules.specs.Calls.{pick_reply};

@@ -1,5 +1,6 @@
 // One record of a journal, played: its call is made, and what that prints is put behind what is there (A1).
 #![tactic(auto)]
+
 pub mod printing;
 
 ghost use Rattle.std.specs.Prelude.{◌≡◌, [], ◌∷◌, take};

@@ -1,5 +1,6 @@
 // Document 01, "Picking and preemption": who preempts the current job.
 #![tactic(auto)]
+
 ghost use Rattle.std.specs.Prelude.{◌≡◌, true, ◌*◌, ◌<◌, ◌≤◌, length};
 ghost use Rattle.rules.specs.declared.State.{State};
 ghost use Rattle.rules.specs.Sizes.{last_second};

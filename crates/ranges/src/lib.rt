@@ -1,5 +1,6 @@
 // Document 01, "Set-up ranges": the test of a set-up.
 #![tactic(auto)]
+
 ghost use Rattle.std.specs.Prelude.{◌≡◌, ◌≤◌, get_or, ltb};
 ghost use Rattle.laws.specs.Range.{all_to};
 ghost use Rattle.rules.specs.State.{at, zero_settings};

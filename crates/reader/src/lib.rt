@@ -1,5 +1,6 @@
 // The reader of a journal (A1): what stands at an offset, and a name as a part of the journal. Any bytes, any offset.
 #![tactic(auto)]
+
 ghost use Rattle.std.specs.Prelude.{◌≡◌, ◌+◌, []};
 ghost use Rattle.laws.specs.Sequence.{padded};
 ghost use Rattle.journal.specs.Records.{report, refused, event, closed, name_fields, job_fields, pick_fields, report_fields, read_at};

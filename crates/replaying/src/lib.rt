@@ -1,5 +1,6 @@
 // The replay of a journal (A1): its records, one after another, through the scheduler from one set-up.
 #![tactic(auto)]
+
 ghost use Rattle.std.specs.Prelude.{◌+◌, ◌*◌, ◌≤◌, ◌≡◌, length, take};
 ghost use Rattle.rules.specs.Setup.{fresh_state};
 ghost use Rattle.rules.specs.History.{state_after};

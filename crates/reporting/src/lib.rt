@@ -1,5 +1,6 @@
 // The report: the outcome of a delivery. Document 01, "Windows". The steps on columns are the crate `leaving`; here they are joined.
 #![tactic(auto)]
+
 ghost use Rattle.std.specs.Prelude.{◌≡◌};
 ghost use Rattle.rules.specs.Calls.{report_reply};
 ghost use Rattle.rules.specs.Gave.{report_gave};

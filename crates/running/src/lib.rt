@@ -1,5 +1,6 @@
 // `run`: a list of calls, read from numbers and made one after another. The layout of the lists is the crate `layout`, and as a table docs/RUN.md.
 #![tactic(auto)]
+
 ghost use Rattle.std.specs.Prelude.{◌≡◌, ◌≤◌, ◌<◌};
 ghost use Rattle.running.specs.WholeReply.{run_gave, end_number, ran_from, run_reply, calls_read, Demand3OfRun};
 

@@ -1,5 +1,6 @@
 // The search for the best candidate: document 01, "Picking and preemption". It walks by arrival and stops where request A3 says.
 #![tactic(auto)]
+
 ghost use Rattle.std.specs.Prelude.{◌≡◌, false, not, ◌&&◌, ◌+◌, ◌*◌, ◌/◌, ◌<◌, ◌≤◌, eqb, ltb, leb, length, get_or};
 ghost use Rattle.rules.specs.declared.State.{State};
 ghost use Rattle.rules.specs.Sizes.{last_second};

@@ -1,5 +1,6 @@
 // Document 01, "Windows", last part: what a report does to the entries of its destination, and its refusal.
 #![tactic(auto)]
+
 ghost use Rattle.std.specs.Prelude.{◌≡◌};
 ghost use Rattle.rules.specs.Reporting.{is_death};
 ghost use Rattle.settling.specs.Settling.{CanPutOff, PutOff, entry_refusal};

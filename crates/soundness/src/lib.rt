@@ -1,5 +1,6 @@
 // Document 01, "Refusal numbers", "Sound means": whether a state is sound, whatever numbers it holds.
 #![tactic(auto)]
+
 ghost use Rattle.std.specs.Prelude.{◌≡◌, false};
 ghost use Rattle.rules.specs.Sound.{sound};
 ghost use Rattle.counting.specs.Counting.{no_pairs, Pairs};

@@ -1,5 +1,6 @@
 // The set-up call: the state that a set-up starts from, or the state of all zeros where it is out of the ranges.
 #![tactic(auto)]
+
 ghost use Rattle.std.specs.Prelude.{◌≡◌, true};
 ghost use Rattle.laws.specs.Range.{table_to};
 ghost use Rattle.rules.specs.State.{zero_settings, zero_destination, zero_list};

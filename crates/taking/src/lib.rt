@@ -1,6 +1,7 @@
 // The job call: a message for one transport, with an entry for each delivery. Document 01, "Time and tickets". Its tests are the crate `admission`, what a
 // new job is made of is `newjob`; here they are joined.
 #![tactic(auto)]
+
 ghost use Rattle.std.specs.Prelude.{◌≡◌};
 ghost use Rattle.rules.specs.Calls.{job_reply};
 ghost use Rattle.rules.specs.Gave.{job_gave};

@@ -1,5 +1,6 @@
 // Document 01, "Transports take turns" and "destinations .. take turns": of the transports, and of the destinations of a job.
 #![tactic(auto)]
+
 ghost use Rattle.std.specs.Prelude.{◌≡◌, ◌+◌, ◌%◌, ◌<◌, ◌≤◌, length, take};
 ghost use Rattle.rules.specs.Picking.{steps_to};
 ghost use Rattle.eligibility.specs.Eligibility.{ready_in, open_place};

@@ -1,6 +1,7 @@
 // Document 01, "Time and tickets": the test of a call's clock, and what an accepted call does first: it "wakes destinations whose suspension ends at or
 // before it, to their first state".
 #![tactic(auto)]
+
 ghost use Rattle.std.specs.Prelude.{◌≡◌, ◌||◌, ℕ, ◌≤◌, ◌<◌, ltb};
 ghost use Rattle.laws.specs.Range.{table_to};
 ghost use Rattle.rules.specs.Sizes.{last_second};

@@ -1,5 +1,6 @@
 // Document 01, "Windows": a destination's first state, its step after a success or a failure, and why its number moved in it.
 #![tactic(auto)]
+
 ghost use Rattle.std.specs.Prelude.{◌≡◌, true, ◌*◌, ◌≤◌, ◌<◌, min, max};
 ghost use Rattle.laws.specs.Fractions.{rounded_up};
 ghost use Rattle.rules.specs.declared.Health.TheVariants.{Live};

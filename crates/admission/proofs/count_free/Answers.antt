@@ -22,9 +22,9 @@ loop-e-preserved c =
     let start = c in (
       omega arith,
       elim c.if-kind-e-eq0.branch [
-      then-kind-e-eq0 w ↦ w.n-is ∙ ap (λ x. x + 1) turn.invariant.1 ∙ sym (count_hit (free_in start.args.kind.now) turn.e (eq-eqb _ _ w.if-kind-e-eq0.true))
-    | else-kind-e-eq0 w ↦ w.n-is ∙ turn.invariant.1 ∙ sym (count_miss (free_in start.args.kind.now) turn.e (ne_eqb _ _ w.if-kind-e-eq0.false))
-    ],
+        | then-kind-e-eq0 w ↦ w.n-is ∙ ap (λ x. x + 1) turn.invariant.1 ∙ sym (count_hit (free_in start.args.kind.now) turn.e (eq-eqb _ _ w.if-kind-e-eq0.true))
+        | else-kind-e-eq0 w ↦ w.n-is ∙ turn.invariant.1 ∙ sym (count_miss (free_in start.args.kind.now) turn.e (ne_eqb _ _ w.if-kind-e-eq0.false))
+      ],
     )
 
 pub returns : goal.returns

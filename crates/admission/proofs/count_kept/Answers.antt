@@ -34,9 +34,9 @@ loop-i-preserved c =
     let one_more = sym (length_snoc (keep live (take turn.i dests)) (at dests turn.i)) in (
       omega arith,
       elim c.if-not-dead-k.branch [
-      then-not-dead-k w ↦ w.n-is ∙ ap (λ x. x + 1) turn.invariant.1 ∙ one_more ∙ ap length (sym (keep_more live dests turn.i below w.if-not-dead-k.true-raw))
-    | else-not-dead-k w ↦ w.n-is ∙ turn.invariant.1 ∙ ap length (sym (keep_fewer live dests turn.i below w.if-not-dead-k.false-raw))
-    ],
+        | then-not-dead-k w ↦ w.n-is ∙ ap (λ x. x + 1) turn.invariant.1 ∙ one_more ∙ ap length (sym (keep_more live dests turn.i below w.if-not-dead-k.true-raw))
+        | else-not-dead-k w ↦ w.n-is ∙ turn.invariant.1 ∙ ap length (sym (keep_fewer live dests turn.i below w.if-not-dead-k.false-raw))
+      ],
     )
 
 pub returns : goal.returns

@@ -49,11 +49,11 @@ turned c =
 
 -- the settings of the transport, as the code reads them
 settings-at : (c : After-wide-at)
- → settings_of c.args.w c.next_transport-turn.result.transport ≡ get_or c.args.w.setup.settings c.wide-at.result zero_settings
+    → settings_of c.args.w c.next_transport-turn.result.transport ≡ get_or c.args.w.setup.settings c.wide-at.result zero_settings
 settings-at c = ap (λ x. get_or c.args.w.setup.settings x zero_settings) (sym c.wide-at.ensures.0)
 
 preempted : (c : After-picked_from-job)
- → (c.find_preemptor-p.result.link ≡ preemptor_of c.args.w c.args.now c.next_transport-turn.result.transport c.next_transport-turn.result.job)
+    → (c.find_preemptor-p.result.link ≡ preemptor_of c.args.w c.args.now c.next_transport-turn.result.transport c.next_transport-turn.result.job)
     × (c.find_preemptor-p.result.waiting ≡ waiting_at c.args.w c.find_preemptor-p.result.link)
 preempted c = c.find_preemptor-p.ensures.preempts c.args.w refl refl (settings-at (goal.at.After-picked_from-job c).After-wide-at) (tables (goal.at.After-picked_from-job c).After-left_waiting-waits)
 
@@ -69,7 +69,7 @@ from-below c = same_below c.wide-from.result c.picked_from-job.result 32 c.wide-
 
 -- the place and the destination that the turn is at
 place_at : (c : After-next_place-next)
- → (c.next_place-next.result.place ≡ next_place c.args.w c.picked_from-job.result) × (c.next_place-next.result.destination ≡ order_at c.args.w c.picked_from-job.result (next_place c.args.w c.picked_from-job.result))
+    → (c.next_place-next.result.place ≡ next_place c.args.w c.picked_from-job.result) × (c.next_place-next.result.destination ≡ order_at c.args.w c.picked_from-job.result (next_place c.args.w c.picked_from-job.result))
 place_at c =
     let t = c in
     let j = job-found (goal.at.After-next_place-next c).After-picked_from-job in

@@ -13,6 +13,6 @@ loop-d-preserved c = (added_more _ _ _ _ c.loop-d.invariant.0 (omega arith), ome
 
 pub returns : goal.returns
 returns c = record {
-      size = c.loop-d.invariant.0.size;
-      sums = λ d l. c.loop-d.invariant.0.done d (omega arith);
-    }
+  size = c.loop-d.invariant.0.size;
+  sums = λ d l. c.loop-d.invariant.0.done d (omega arith);
+}

@@ -12,17 +12,17 @@ loop-j-init c = (omega arith, length-replicate {A = ℕ} 32 0, λ d l. get_or-re
 
 pub add_row-requires : goal.add_row-requires
 add_row-requires c = record {
-      j_bound = omega arith;
-      sums_len = c.loop-j.invariant.1;
-      by_index = λ d l. sum_fits _ c.loop-j.j 32
-        (at c.loop-j.sums d) 65535 (omega arith) (c.loop-j.invariant.2 d l) (c.requires d l);
-    }
+  j_bound = omega arith;
+  sums_len = c.loop-j.invariant.1;
+  by_index = λ d l. sum_fits _ c.loop-j.j 32
+      (at c.loop-j.sums d) 65535 (omega arith) (c.loop-j.invariant.2 d l) (c.requires d l);
+}
 
 pub loop-j-preserved : goal.loop-j-preserved
 loop-j-preserved c = (omega arith, c.add_row.ensures.size, λ d l. c.add_row.ensures.sums d l ∙ sum_turn _ _ _ (c.loop-j.invariant.2 d l))
 
 pub returns : goal.returns
 returns c = let e : c.loop-j.j ≡ 32 = omega arith in record {
-      size = c.loop-j.invariant.1;
-      sums = λ d l. c.loop-j.invariant.2 d l ∙ ap (sum_to _) e;
-    }
+  size = c.loop-j.invariant.1;
+  sums = λ d l. c.loop-j.invariant.2 d l ∙ ap (sum_to _) e;
+}

@@ -38,13 +38,13 @@ belongs-requires c = (c.requires.destinations_bound, c.requires.present_len)
 
 pub returns-then-not-right : goal.returns-then-not-right
 returns-then-not-right c = record {
-      counts = counted_not _ _ _ _ _ _ c.loop-e.invariant.0
+  counts = counted_not _ _ _ _ _ _ c.loop-e.invariant.0
       c.if-k-eq0.false
       c.wide-j.result c.wide-d.result
       c.wide-j.ensures.0 c.wide-d.ensures.0 _
       c.belongs.ensures c.if-not-right.true (omega arith) _ refl;
-      pairs = record { counted = λ g. true_not_false g refl; none = λ _. refl };
-    }
+  pairs = record { counted = λ g. true_not_false g refl; none = λ _. refl };
+}
 
 pub overflow_mul-pairs : goal.overflow_mul-pairs
 overflow_mul-pairs c = omega (arith, inside (goal.at.overflow_mul-pairs c).Else-not-right)

@@ -10,9 +10,9 @@ loop-j-init c = (omega arith, length-replicate {A = ℕ} 32 0, λ i l. absurd (o
 
 pub row_sum-requires : goal.row_sum-requires
 row_sum-requires c = record {
-      j_bound = omega arith;
-      d_bound = c.requires _ (omega arith);
-    }
+  j_bound = omega arith;
+  d_bound = c.requires _ (omega arith);
+}
 
 pub loop-j-preserved : goal.loop-j-preserved
 loop-j-preserved c = (
@@ -23,6 +23,6 @@ loop-j-preserved c = (
 
 pub returns : goal.returns
 returns c = record {
-      size = c.loop-j.invariant.1;
-      sums = λ j l. c.loop-j.invariant.2 j (omega arith);
-    }
+  size = c.loop-j.invariant.1;
+  sums = λ j l. c.loop-j.invariant.2 j (omega arith);
+}

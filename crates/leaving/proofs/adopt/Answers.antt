@@ -17,9 +17,9 @@ pub loop-j-preserved : goal.loop-j-preserved
 loop-j-preserved c = (
   fill_more (adopted_at c.args.stays.now c.args.parent.now) (replicate 32 0) c.loop-j.j (omega arith) c.loop-j.invariant.0
       (elim c.if-stays-j.branch [
-      then-stays-j w ↦ w.link-is ∙ w.nearest-link.ensures ∙ sym (if_true _ _ w.if-stays-j.true)
-    | else-stays-j w ↦ w.link-is ∙ sym (if_false _ _ w.if-stays-j.false)
-    ]),
+        | then-stays-j w ↦ w.link-is ∙ w.nearest-link.ensures ∙ sym (if_true _ _ w.if-stays-j.true)
+        | else-stays-j w ↦ w.link-is ∙ sym (if_false _ _ w.if-stays-j.false)
+      ]),
   omega arith,
 )
 

@@ -22,13 +22,13 @@ pub loop-j-preserved : goal.loop-j-preserved
 loop-j-preserved c =
     let l : c.loop-j.j < length c.args.present = omega (arith, c.loop-j.invariant.2) in (
       elim c.if-may_be_empty.branch [
-      then-may_be_empty w ↦ w.stays-is ∙ fill_more (stays_at c.args.kind.now c.args.job.now c.args.present 512) c.args.present c.loop-j.j l
-          c.loop-j.invariant.0 (ap (λ b. get_or c.args.present c.loop-j.j false && b) w.has_entry.ensures)
-    | else-may_be_empty w ↦ w.stays-is ∙ c.loop-j.invariant.0
-          ∙ stay_kept c.args.kind.now c.args.job.now c.args.present
-          (emptied c.args.pairs.now c.args.d c.args.of) c.requires.1
-          c.loop-j.j c.loop-j-test.true l (sym c.may_be_empty.ensures ∙ w.if-may_be_empty.false)
-    ],
+        | then-may_be_empty w ↦ w.stays-is ∙ fill_more (stays_at c.args.kind.now c.args.job.now c.args.present 512) c.args.present c.loop-j.j l
+            c.loop-j.invariant.0 (ap (λ b. get_or c.args.present c.loop-j.j false && b) w.has_entry.ensures)
+        | else-may_be_empty w ↦ w.stays-is ∙ c.loop-j.invariant.0
+            ∙ stay_kept c.args.kind.now c.args.job.now c.args.present
+            (emptied c.args.pairs.now c.args.d c.args.of) c.requires.1
+            c.loop-j.j c.loop-j-test.true l (sym c.may_be_empty.ensures ∙ w.if-may_be_empty.false)
+      ],
       omega arith,
       c.loop-j.invariant.2,
     )

@@ -32,17 +32,17 @@ pub overflow_add-m : goal.overflow_add-m
 overflow_add-m c = omega (arith, room (goal.at.overflow_add-m c).Then-z-y)
 
 ready : (c : Joined-z-y)
- → Ready c.args.x c.args.y c.args.q.jobs c.loop-i.i c.if-z-y.jobs c.if-z-y.m
+    → Ready c.args.x c.args.y c.args.q.jobs c.loop-i.i c.if-z-y.jobs c.if-z-y.m
 ready c =
     let l = c in
     let s = l in
     elim c.if-z-y.branch [
-      then-z-y w ↦ ready_here s.args.x s.args.y s.args.q.count s.args.q.jobs s.requires.fact s.requires.q_value s.requires.count_bound
-    l.loop-i.invariant.3 l.loop-i.i c.loop-i-test.true l.loop-i.jobs l.loop-i.m
-    l.loop-i.invariant.0 l.loop-i.invariant.1 c.if-z-x.true w.if-z-y.true _ _ w.jobs-is w.m-is
-    | else-z-y w ↦ ready_other s.args.x s.args.y s.args.q.count s.args.q.jobs s.requires.fact s.requires.q_value s.requires.count_bound
-    l.loop-i.invariant.3 l.loop-i.i c.loop-i-test.true l.loop-i.jobs
-    l.loop-i.m l.loop-i.invariant.0 l.loop-i.invariant.1 c.if-z-x.true w.if-z-y.false _ _ w.jobs-is w.m-is
+      | then-z-y w ↦ ready_here s.args.x s.args.y s.args.q.count s.args.q.jobs s.requires.fact s.requires.q_value s.requires.count_bound
+          l.loop-i.invariant.3 l.loop-i.i c.loop-i-test.true l.loop-i.jobs l.loop-i.m
+          l.loop-i.invariant.0 l.loop-i.invariant.1 c.if-z-x.true w.if-z-y.true _ _ w.jobs-is w.m-is
+      | else-z-y w ↦ ready_other s.args.x s.args.y s.args.q.count s.args.q.jobs s.requires.fact s.requires.q_value s.requires.count_bound
+          l.loop-i.invariant.3 l.loop-i.i c.loop-i-test.true l.loop-i.jobs
+          l.loop-i.m l.loop-i.invariant.0 l.loop-i.invariant.1 c.if-z-x.true w.if-z-y.false _ _ w.jobs-is w.m-is
     ]
 
 pub bounds-jobs-m-then-z-x : goal.bounds-jobs-m-then-z-x

@@ -38,11 +38,11 @@ loop-i-preserved c =
     let start = c in
     let d = c.wide-k in (
       elim c.if-not-seen-k.branch [
-      then-not-seen-k w ↦ let fresh = rw d.ensures.0 at (not-true (get_or turn.seen d.result false) w.if-not-seen-k.true-raw) in
-          seen_new turn.invariant.0 (λ k h. start.requires.1 k (omega arith)) fresh (rw d.ensures.0 at w.seen-is) w.places-is w.m-is
-    | else-not-seen-k w ↦ let seen = rw d.ensures.0 at (not-false (get_or turn.seen d.result false) w.if-not-seen-k.false-raw) in
-          seen_again turn.invariant.0 (λ k h. start.requires.1 k (omega arith)) seen w.seen-is w.places-is w.m-is
-    ],
+        | then-not-seen-k w ↦ let fresh = rw d.ensures.0 at (not-true (get_or turn.seen d.result false) w.if-not-seen-k.true-raw) in
+            seen_new turn.invariant.0 (λ k h. start.requires.1 k (omega arith)) fresh (rw d.ensures.0 at w.seen-is) w.places-is w.m-is
+        | else-not-seen-k w ↦ let seen = rw d.ensures.0 at (not-false (get_or turn.seen d.result false) w.if-not-seen-k.false-raw) in
+            seen_again turn.invariant.0 (λ k h. start.requires.1 k (omega arith)) seen w.seen-is w.places-is w.m-is
+      ],
       omega arith,
     )
 

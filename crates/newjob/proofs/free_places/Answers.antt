@@ -51,16 +51,16 @@ loop-m-preserved c =
     let few : length (chosen_to f turn.e) < 256 = omega (arith, length_chosen f turn.e) in
     let r : (c.if-kind-e-eq0.places ≡ padded 256 (chosen_to f (turn.e + 1))) × (c.if-kind-e-eq0.m ≡ count_to f (turn.e + 1)) × (c.if-kind-e-eq0.m ≤ start.args.n) =
     elim c.if-kind-e-eq0.branch [
-      then-kind-e-eq0 w ↦ let t : f turn.e ≡ true = eq-eqb _ _ w.if-kind-e-eq0.true in (
-      w.places-is ∙ put_at 256 (chosen_to f turn.e) turn.e turn.invariant.0 (turn.invariant.1 ∙ sym (length_chosen f turn.e)) (omega arith) ∙ ap (padded 256) (sym (chosen_hit f turn.e t)),
-      w.m-is ∙ ap (λ x. x + 1) turn.invariant.1 ∙ sym (count_hit f turn.e t),
-      omega (arith, w.m-is),
-    )
-    | else-kind-e-eq0 w ↦ let t : f turn.e ≡ false = ne_eqb _ _ w.if-kind-e-eq0.false in (
-      w.places-is ∙ turn.invariant.0 ∙ ap (padded 256) (sym (chosen_miss f turn.e t)),
-      w.m-is ∙ turn.invariant.1 ∙ sym (count_miss f turn.e t),
-      omega (arith, w.m-is),
-    )
+      | then-kind-e-eq0 w ↦ let t : f turn.e ≡ true = eq-eqb _ _ w.if-kind-e-eq0.true in (
+        w.places-is ∙ put_at 256 (chosen_to f turn.e) turn.e turn.invariant.0 (turn.invariant.1 ∙ sym (length_chosen f turn.e)) (omega arith) ∙ ap (padded 256) (sym (chosen_hit f turn.e t)),
+        w.m-is ∙ ap (λ x. x + 1) turn.invariant.1 ∙ sym (count_hit f turn.e t),
+        omega (arith, w.m-is),
+      )
+      | else-kind-e-eq0 w ↦ let t : f turn.e ≡ false = ne_eqb _ _ w.if-kind-e-eq0.false in (
+        w.places-is ∙ turn.invariant.0 ∙ ap (padded 256) (sym (chosen_miss f turn.e t)),
+        w.m-is ∙ turn.invariant.1 ∙ sym (count_miss f turn.e t),
+        omega (arith, w.m-is),
+      )
     ] in
     (r.0, r.1, omega arith, r.2)
 

@@ -42,8 +42,8 @@ loop-i-preserved c =
     let turn = c.loop-i in
     let start = c in
     elim c.if-dead-k.branch [
-      then-dead-k w ↦ parting_dead turn.invariant c.loop-i-test.true start.requires.dests_len_bound.0 start.requires.dests_len_bound.1 w.if-dead-k.true w.list-is w.kept-is w.n-is w.m-is
-    | else-dead-k w ↦ parting_live turn.invariant c.loop-i-test.true start.requires.dests_len_bound.0 start.requires.dests_len_bound.1 w.if-dead-k.false w.list-is w.kept-is w.n-is w.m-is
+      | then-dead-k w ↦ parting_dead turn.invariant c.loop-i-test.true start.requires.dests_len_bound.0 start.requires.dests_len_bound.1 w.if-dead-k.true w.list-is w.kept-is w.n-is w.m-is
+      | else-dead-k w ↦ parting_live turn.invariant c.loop-i-test.true start.requires.dests_len_bound.0 start.requires.dests_len_bound.1 w.if-dead-k.false w.list-is w.kept-is w.n-is w.m-is
     ]
 
 pub overflow_cast-result : goal.overflow_cast-result

@@ -107,14 +107,14 @@ from c =
     let x = c.choose-c.result in
     let w = woke (goal.at.Joined-c-ne0 c).After-wake-ds in
     elim c.if-c-ne0.branch [
-      then-c-ne0 a ↦ let p = pays (met c) a.if-c-ne0.true in
-    let q = ap (λ q. listed (move_before x.job x.current (list_of q))) (same_list w x.transport p.lists p.lane) in
-    inr (
-      a.if-c-ne0.true,
-      a.next-is
-          ∙ preempt_is w x.transport x.job x.current x.waiting a.move_before-queue.result _ _ _ _ (a.move_before-queue.ensures ∙ q) a.charge_from.ensures a.add.ensures a.put.ensures a.mark.ensures,
-    )
-    | else-c-ne0 b ↦ inl (b.if-c-ne0.false, b.next-is)
+      | then-c-ne0 a ↦ let p = pays (met c) a.if-c-ne0.true in
+          let q = ap (λ q. listed (move_before x.job x.current (list_of q))) (same_list w x.transport p.lists p.lane) in
+          inr (
+            a.if-c-ne0.true,
+            a.next-is
+                ∙ preempt_is w x.transport x.job x.current x.waiting a.move_before-queue.result _ _ _ _ (a.move_before-queue.ensures ∙ q) a.charge_from.ensures a.add.ensures a.put.ensures a.mark.ensures,
+          )
+      | else-c-ne0 b ↦ inl (b.if-c-ne0.false, b.next-is)
     ]
 
 may-hand : (c : Joined-c-ne0) → MayHand (met c) c.if-c-ne0.next

@@ -22,7 +22,7 @@ use Rattle.preemption.proofs.find_preemptor.Goals.{After-best_candidate-found, A
 
 -- the credit as the code holds it
 z-is : (c : After-slot_credit-a)
- → to_z w64 (of_z w64 c.slot_credit-a.result)
+    → to_z w64 (of_z w64 c.slot_credit-a.result)
     ≡ credit c.args.g.cost (at c.args.jobs.picked c.args.y)
     (at c.args.jobs.sold c.args.y)
 z-is c =
@@ -47,8 +47,8 @@ slots_small c =
     w.wide16.result (c.owned_slots-slots.ensures ∙ ap owned z ∙ o) e w.wide16.ensures.1
 
 best-read : (c : After-best_candidate-found) (s : State) → s.jobs ≡ c.args.jobs → s.arrivals ≡ c.args.arrivals → settings_of s c.args.t ≡ c.args.g
- → Reads s c.args.waits.now (ready_in c.args.pairs.now c.args.room.now)
- → c.best_candidate-found.result.link ≡ best_candidate s c.args.time c.args.t c.args.y
+    → Reads s c.args.waits.now (ready_in c.args.pairs.now c.args.room.now)
+    → c.best_candidate-found.result.link ≡ best_candidate s c.args.time c.args.t c.args.y
 best-read c s j a g r =
     let w = c in
     let x = c.args in
@@ -63,7 +63,7 @@ link-read : (c : After-wide-k) → c.best_candidate-found.result.link ≡ suc c.
 link-read c = link_suc c.best_candidate-found.result.link c.if-best-eq0.false ∙ ap suc (sym c.wide-k.ensures.0)
 
 pays-read : (c : After-pays_for)
- → c.pays_for.result
+    → c.pays_for.result
     ≡ pays_for c.args.g (owned (to_z w64 (of_z w64 c.slot_credit-a.result)))
     (at c.args.waits.now c.wide-k.result)
 pays-read c = c.pays_for.ensures ∙ ap₂ (pays_for c.args.g) c.owned_slots-slots.ensures c.wide16-5.ensures.0

@@ -11,7 +11,7 @@ use Rattle.running.proofs.run_from.Goals.{After-make-state, After-text_places-ro
 
 -- where the run goes on
 on : (c : Else-end-ne0)
- → GoesOn c.args.calls.now c.args.answers.now c.args.lists.now c.args.texts.now
+    → GoesOn c.args.calls.now c.args.answers.now c.args.lists.now c.args.texts.now
     c.loop-rest.at c.loop-rest.row c.loop-rest.listed c.loop-rest.told
 on c = asked c.loop-rest.invariant 0 (sym c.if-end-ne0.false ∙ c.end_before-end.ensures)
 

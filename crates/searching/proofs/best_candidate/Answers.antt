@@ -28,12 +28,12 @@ here c =
 
 -- its arrival
 arrival-is : (c : After-wide32)
- → c.wide32.result ≡ at c.args.jobs.arrival (at c.args.arrivals.jobs c.loop-i.i)
+    → c.wide32.result ≡ at c.args.jobs.arrival (at c.args.arrivals.jobs c.loop-i.i)
 arrival-is c = c.wide32.ensures ∙ ap (at c.args.jobs.arrival) c.wide-k.ensures.0
 
 -- its transport
 on : (c : After-wide32)
- → at c.args.jobs.transport (at c.args.arrivals.jobs c.loop-i.i) ≡ c.args.t
+    → at c.args.jobs.transport (at c.args.arrivals.jobs c.loop-i.i) ≡ c.args.t
 on c = sym (ap (at c.args.jobs.transport) c.wide-k.ensures.0) ∙ c.if-jobs-k.true
 
 pub loop-i-init : goal.loop-i-init
@@ -56,7 +56,7 @@ overflow_sub-age c = omega (arith, arrival-is (goal.at.overflow_sub-age c).After
 
 -- its wait plus 1, which is small enough for the products
 waited : (c : After-wide32)
- → let g = c.args in
+    → let g = c.args in
     (g.time + 1 - c.wide32.result ≤ 4294967296)
     × (g.time + 1 - c.wide32.result ≡ g.time - at g.jobs.arrival (at g.arrivals.jobs c.loop-i.i) + 1)
 waited c =
@@ -155,17 +155,17 @@ loop-i-preserved c =
     let i = (goal.at.loop-i-preserved c).After-wide-k in (
       refl,
       elim c.if-jobs-k.branch [
-        then-jobs-k+else-not_above+then-leads w ↦
+        | then-jobs-k+else-not_above+then-leads w ↦
             search_is
             ((weighed i _ _ _ _ _ _ w.if-jobs-k.true w.wide32.ensures w.not_above.ensures w.if-not_above.false w.wide16-m.ensures
             w.candidate-able.ensures w.greater-ahead.ensures w.leads.ensures).0 w.if-leads.true)
             now.link now.than now.of now.looked w.link-is w.than-is w.of-is w.looked-is
-      | then-jobs-k+else-not_above+else-leads w ↦
+        | then-jobs-k+else-not_above+else-leads w ↦
             search_is
             ((weighed i _ _ _ _ _ _ w.if-jobs-k.true w.wide32.ensures w.not_above.ensures w.if-not_above.false w.wide16-m.ensures
             w.candidate-able.ensures w.greater-ahead.ensures w.leads.ensures).1 w.if-leads.false)
             now.link now.than now.of now.looked w.link-is w.than-is w.of-is w.looked-is
-      | else-jobs-k w ↦
+        | else-jobs-k w ↦
             search_is
             (passed_by c.loop-i.invariant.1 c.loop-i-test.true _ refl (here i).1
             (λ e. w.if-jobs-k.false (ap (at c.args.jobs.transport) c.wide-k.ensures.0 ∙ e)))

@@ -54,10 +54,10 @@ overflow_add-m c = omega (arith, put_few _ _ _ _ _ _ c.requires c.loop-i.invaria
 pub loop-i-preserved : goal.loop-i-preserved
 loop-i-preserved c =
     elim c.if-kind-i.branch [
-      then-kind-i w ↦ put_more _ _ _ _ _ _ c.requires c.loop-i.invariant c.loop-i-test.true
-    w.if-kind-i.true w.wide-j.ensures.0 w.kind-is w.dropped-is w.list-is w.m-is
-    | else-kind-i w ↦ put_none _ _ _ _ _ _ c.requires c.loop-i.invariant c.loop-i-test.true
-    w.if-kind-i.false w.kind-is w.dropped-is w.list-is w.m-is
+      | then-kind-i w ↦ put_more _ _ _ _ _ _ c.requires c.loop-i.invariant c.loop-i-test.true
+          w.if-kind-i.true w.wide-j.ensures.0 w.kind-is w.dropped-is w.list-is w.m-is
+      | else-kind-i w ↦ put_none _ _ _ _ _ _ c.requires c.loop-i.invariant c.loop-i-test.true
+          w.if-kind-i.false w.kind-is w.dropped-is w.list-is w.m-is
     ]
 
 pub overflow_cast-result : goal.overflow_cast-result

@@ -50,15 +50,15 @@ returns-then-not-in_range c =
 
 pub returns-then-transports-wide : goal.returns-then-transports-wide
 returns-then-transports-wide c = record {
-      answer = sym (false_of λ h. (let t = part_turn c.args.s h in omega (arith, c.if-transports-wide.true, c.wide.ensures.0, t)));
-      pairs = empty refl c.requires;
-    }
+  answer = sym (false_of λ h. (let t = part_turn c.args.s h in omega (arith, c.if-transports-wide.true, c.wide.ensures.0, t)));
+  pairs = empty refl c.requires;
+}
 
 pub mark_orders-requires : goal.mark_orders-requires
 mark_orders-requires c = record {
-      table_len = length-replicate 8192 false;
-      by_index = λ k l. get_or-replicate 8192 k false false l;
-    }
+  table_len = length-replicate 8192 false;
+  by_index = λ k l. get_or-replicate 8192 k false false l;
+}
 
 pub returns-then-not-mark_orders : goal.returns-then-not-mark_orders
 returns-then-not-mark_orders c =
@@ -177,9 +177,9 @@ decided c =
 
 pub returns-then-not-destinations_right : goal.returns-then-not-destinations_right
 returns-then-not-destinations_right c = record {
-      answer = c.unsound-then-not-destinations_right.ensures.0 ∙ sym c.if-not-destinations_right.true ∙ decided (goal.at.returns-then-not-destinations_right c).After-destinations_right;
-      pairs = empty c.unsound-then-not-destinations_right.ensures.0 c.unsound-then-not-destinations_right.ensures.1;
-    }
+  answer = c.unsound-then-not-destinations_right.ensures.0 ∙ sym c.if-not-destinations_right.true ∙ decided (goal.at.returns-then-not-destinations_right c).After-destinations_right;
+  pairs = empty c.unsound-then-not-destinations_right.ensures.0 c.unsound-then-not-destinations_right.ensures.1;
+}
 
 pub returns : goal.returns
 returns c =

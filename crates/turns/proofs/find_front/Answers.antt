@@ -69,9 +69,9 @@ loop-i-preserved c =
       omega (arith, i.loop-i-test.true),
       refl,
       elim c.if-waits-j-gt0.branch [
-      then-waits-j-gt0 w ↦ w.passed-is ∙ ap (λ x. x + 1) i.loop-i.invariant.2 ∙ sym (count_hit p i.loop-i.i (lt-ltb 0 (at waits (at jobs i.loop-i.i)) (omega (arith, w.if-waits-j-gt0.true, here))))
-    | else-waits-j-gt0 w ↦ w.passed-is ∙ i.loop-i.invariant.2 ∙ sym (count_miss p i.loop-i.i (le-ltb 0 (at waits (at jobs i.loop-i.i)) (omega (arith, w.if-waits-j-gt0.false, here))))
-    ],
+        | then-waits-j-gt0 w ↦ w.passed-is ∙ ap (λ x. x + 1) i.loop-i.invariant.2 ∙ sym (count_hit p i.loop-i.i (lt-ltb 0 (at waits (at jobs i.loop-i.i)) (omega (arith, w.if-waits-j-gt0.true, here))))
+        | else-waits-j-gt0 w ↦ w.passed-is ∙ i.loop-i.invariant.2 ∙ sym (count_miss p i.loop-i.i (le-ltb 0 (at waits (at jobs i.loop-i.i)) (omega (arith, w.if-waits-j-gt0.false, here))))
+      ],
       below_more (λ k. get_or ready (at jobs k) false ≡ false) i.loop-i.i i.loop-i.invariant.3 miss,
     )
 

@@ -15,7 +15,7 @@ place_below c = mod-lt (c.args.start + c.loop-step.step) (omega (arith, c.loop-s
 
 -- what the test of a step says
 step_is : (c : After-open_to)
- → (open_place c.args.order.now c.args.pairs.now c.args.room.now c.args.j) ((c.args.start + c.loop-step.step) % c.args.places)
+    → (open_place c.args.order.now c.args.pairs.now c.args.room.now c.args.j) ((c.args.start + c.loop-step.step) % c.args.places)
     ≡ c.open_to.result
 unfolding open_place
 step_is c = sym c.open_to.ensures

@@ -23,14 +23,14 @@ turn_below c = mod-lt (c.args.start + c.loop-i.i) (omega (arith, c.loop-i-test.t
 
 -- its list, whatever stands past the four
 same_list : (c : In-loop-i)
- → get_or c.args.queues ((c.args.start + c.loop-i.i) % c.args.transports) (record { jobs = []; count = 0 })
+    → get_or c.args.queues ((c.args.start + c.loop-i.i) % c.args.transports) (record { jobs = []; count = 0 })
     ≡ get_or c.args.queues ((c.args.start + c.loop-i.i) % c.args.transports) zero_list
 same_list c =
     get_d_default c.args.queues ((c.args.start + c.loop-i.i) % c.args.transports) (record { jobs = []; count = 0 }) zero_list
     (omega (arith, turn_below c, c.requires.1, c.requires.3))
 
 front_is : (c : After-find_front-front)
- → c.find_front-front.result.job
+    → c.find_front-front.result.job
     ≡ front_of (ready_in c.args.pairs.now c.args.room.now)
     (list_of (get_or c.args.queues ((c.args.start + c.loop-i.i) % c.args.transports) zero_list))
 front_is c =

@@ -28,9 +28,9 @@ one_more : (c : Joined-is_due) → c.if-is_due.next ≡ woken_to c.args.ds (setu
 one_more c =
     let l : c.loop-d.d < length c.args.ds = omega (arith, c.loop-d.invariant.3) in
     elim c.if-is_due.branch [
-      then-is_due w ↦ let first = w.first_state.ensures ∙ ap (λ t. first_state (get_or (setup_of c.args.home.now c.args.settings c.args.count).settings t zero_settings)) w.index64-t.ensures in
-    w.next-is ∙ woken_written _ (setup_of c.args.home.now c.args.settings c.args.count) _ _ _ c.loop-d.invariant.0 (omega arith) l _ (sym c.is_due.ensures ∙ w.if-is_due.true) first
-    | else-is_due w ↦ w.next-is ∙ woken_kept _ (setup_of c.args.home.now c.args.settings c.args.count) _ _ _ c.loop-d.invariant.0 (omega arith) l (sym c.is_due.ensures ∙ w.if-is_due.false)
+      | then-is_due w ↦ let first = w.first_state.ensures ∙ ap (λ t. first_state (get_or (setup_of c.args.home.now c.args.settings c.args.count).settings t zero_settings)) w.index64-t.ensures in
+          w.next-is ∙ woken_written _ (setup_of c.args.home.now c.args.settings c.args.count) _ _ _ c.loop-d.invariant.0 (omega arith) l _ (sym c.is_due.ensures ∙ w.if-is_due.true) first
+      | else-is_due w ↦ w.next-is ∙ woken_kept _ (setup_of c.args.home.now c.args.settings c.args.count) _ _ _ c.loop-d.invariant.0 (omega arith) l (sym c.is_due.ensures ∙ w.if-is_due.false)
     ]
 
 pub loop-d-preserved : goal.loop-d-preserved

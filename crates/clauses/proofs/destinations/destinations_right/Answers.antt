@@ -11,7 +11,7 @@ use Rattle.clauses.proofs.destinations.destinations_right.Goals.{After-health_ri
 
 -- the test of the round's destination, by the settings of its transport
 tested : (c : After-health_right)
- → c.health_right.result ≡ destination_test c.args.u c.args.destinations c.args.held c.loop-d.d
+    → c.health_right.result ≡ destination_test c.args.u c.args.destinations c.args.held c.loop-d.d
 unfolding destination_test
 tested c =
     let u = c.args.u in

@@ -25,15 +25,15 @@ settings-long c = search rules
 cost_is : (c : Joined-t-lt4) → c.if-t-lt4.cost ≡ (get_or c.args.u.settings (get_or c.args.g.transport c.loop-j.j 0) zero_settings).cost
 cost_is c =
     elim c.if-t-lt4.branch [
-      then-t-lt4 w ↦ w.cost-is
-    | else-t-lt4 w ↦ w.cost-is
-    ∙ sym
-    (ap (λ (g : Settings). g.cost)
-    (get_or-eq_default c.args.u.settings zero_settings {n = get_or c.args.g.transport c.loop-j.j 0} (omega (arith, settings-long (goal.at.Joined-t-lt4 c).Start, w.if-t-lt4.false))))
+      | then-t-lt4 w ↦ w.cost-is
+      | else-t-lt4 w ↦ w.cost-is
+          ∙ sym
+          (ap (λ (g : Settings). g.cost)
+          (get_or-eq_default c.args.u.settings zero_settings {n = get_or c.args.g.transport c.loop-j.j 0} (omega (arith, settings-long (goal.at.Joined-t-lt4 c).Start, w.if-t-lt4.false))))
     ]
 
 tested : (c : After-chain_ends-e)
- → c.counts_right-a.result && c.sold_right-b.result && leb 1 (at c.args.waiting c.loop-j.j + at c.args.busy c.loop-j.j)
+    → c.counts_right-a.result && c.sold_right-b.result && leb 1 (at c.args.waiting c.loop-j.j + at c.args.busy c.loop-j.j)
     && c.child_right-d.result && c.chain_ends-e.result
     && leb (at c.args.g.overtakers c.loop-j.j) 65_535 && leb (at c.args.g.turn c.loop-j.j) (at c.args.g.places c.loop-j.j)
     ≡ job_test c.args.g c.args.u.settings c.args.waiting c.args.busy c.loop-j.j

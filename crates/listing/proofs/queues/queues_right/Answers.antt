@@ -15,7 +15,7 @@ queues-long c = search rules
 
 -- the test of the round's queue
 tested : (c : After-each_once)
- → c.each_once.result ≡ queue_test c.args.queues c.args.present.now c.args.transport.now c.loop-t.t
+    → c.each_once.result ≡ queue_test c.args.queues c.args.present.now c.args.transport.now c.loop-t.t
 tested c = queue_tested _ _ _ _ c.jobs_on-these.result _ (omega (arith, queues-long (goal.at.After-each_once c).Start)) c.jobs_on-these.ensures c.each_once.ensures
 
 pub loop-t-init : goal.loop-t-init
