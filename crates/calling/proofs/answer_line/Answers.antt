@@ -6,7 +6,6 @@ use lib.ListN.{length}
 use lib.Seq.{length-take-le}
 use borrow.Author.Tests.{not-true, not-false}
 use Rattle.lines.specs.Words.{FirstFrom, is_byte}
-use Rattle.lines.proofs.FirstLaws.{first_byte}
 use Rattle.calling.proofs.AnswerLaws.{is_empty, is_comment, is_malformed, is_call}
 use Rattle.calling.proofs.ReplyLaws.{as_line, nothing_said, malformed_said}
 use Rattle.calling.proofs.answer_line.Goals as goal
@@ -14,8 +13,8 @@ use Rattle.calling.proofs.answer_line.Goals.{After-find-end}
 
 -- the word ends at the first blank
 ends_there : (c : After-find-end)
-    → FirstFrom (is_byte c.args.line.now 32) c.skip_blanks-at.result (length c.args.line.now) c.find-end.result
-ends_there c = first_byte c.args.line.now 32 _ _ c.skip_blanks-at.ensures.end (le_refl _) c.find-end.ensures.0
+ → FirstFrom (is_byte c.args.line.now 32) c.skip_blanks-at.result (length c.args.line.now) c.find-end.result
+ends_there c = c.find-end.ensures
 
 pub returns-then-n-at : goal.returns-then-n-at
 returns-then-n-at c =
@@ -34,7 +33,7 @@ returns-then-not-got c =
     let b = f in
     let r = as_line _
     (is_malformed _ _ _ _ _ b.skip_blanks-at.ensures b.if-n-at.false f.if-line-eq35.false (ends_there (goal.at.returns-then-not-got f).After-find-end) _ _ _ r.read_numbers-got.ensures (not-true _ c.if-not-got.true))
-    (malformed_said _ c.malformed.ensures) in
+    (malformed_said _ (c.malformed.ensures.state, c.malformed.ensures.text)) in
     record { state = r.0; text = r.1 }
 
 pub slice_bounds-call-end-3 : goal.slice_bounds-call-end-3
@@ -47,5 +46,5 @@ returns c =
     let b = f in
     let r = as_line _
     (is_call _ _ _ _ _ b.skip_blanks-at.ensures b.if-n-at.false f.if-line-eq35.false (ends_there (goal.at.returns f).After-find-end) _ _ _ r.read_numbers-got.ensures (not-false _ c.if-not-got.false))
-    c.call.ensures in
+    (c.call.ensures.state, c.call.ensures.text) in
     record { state = r.0; text = r.1 }

@@ -5,7 +5,7 @@ use Rattle.calling.proofs.pick.Goals as goal
 
 pub returns-then-words-ne1 : goal.returns-then-words-ne1
 returns-then-words-ne1 c =
-    let r = as_line _ (pick_malformed _ c.if-words-ne1.true) (malformed_said _ c.malformed.ensures) in
+    let r = as_line _ (pick_malformed _ c.if-words-ne1.true) (malformed_said _ (c.malformed.ensures.state, c.malformed.ensures.text)) in
     record { state = r.0; text = r.1 }
 
 pub returns : goal.returns

@@ -8,14 +8,14 @@ use Rattle.calling.proofs.report.Goals as goal
 
 pub returns-then-words-ne5 : goal.returns-then-words-ne5
 returns-then-words-ne5 c =
-    let r = as_line _ (report_malformed _ _ c.if-words-ne5.true) (malformed_said _ c.malformed.ensures) in
+    let r = as_line _ (report_malformed _ _ c.if-words-ne5.true) (malformed_said _ (c.malformed.ensures.state, c.malformed.ensures.text)) in
     record { state = r.0; text = r.1 }
 
 pub returns-then-words-gt1 : goal.returns-then-words-gt1
 returns-then-words-gt1 c =
     let r = as_line _
     (report_other _ _ c.if-words-ne5.false c.if-words-gt1.true)
-    (malformed_said _ c.malformed-then-words-gt1.ensures) in
+    (malformed_said _ (c.malformed-then-words-gt1.ensures.state, c.malformed-then-words-gt1.ensures.text)) in
     record { state = r.0; text = r.1 }
 
 pub slice_bounds-report-end-2 : goal.slice_bounds-report-end-2

@@ -8,12 +8,12 @@ pub returns-then-at-eq0 : goal.returns-then-at-eq0
 returns-then-at-eq0 c =
     let r = as_line _
     (setup_malformed _ (sym c.count_place-at.ensures.0 ∙ c.if-at-eq0.true))
-    (malformed_said _ c.malformed.ensures) in
+    (malformed_said _ (c.malformed.ensures.state, c.malformed.ensures.text)) in
     record { state = r.0; text = r.1 }
 
 pub returns : goal.returns
 returns c =
     let r = as_line _
     (setup_made _ _ _ c.count_place-at.ensures.0 c.if-at-eq0.false
-    c.setup_of-u.ensures) (setup_said _ _ c.start.ensures) in
+    c.setup_of-u.ensures) (setup_said _ _ (c.start.ensures.state, c.start.ensures.text)) in
     record { state = r.0; text = r.1 }

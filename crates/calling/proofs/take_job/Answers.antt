@@ -8,14 +8,14 @@ use Rattle.calling.proofs.take_job.Goals as goal
 
 pub returns-then-k-lt4 : goal.returns-then-k-lt4
 returns-then-k-lt4 c =
-    let r = as_line _ (job_short _ _ c.if-k-lt4.true) (malformed_said _ c.malformed.ensures) in
+    let r = as_line _ (job_short _ _ c.if-k-lt4.true) (malformed_said _ (c.malformed.ensures.state, c.malformed.ensures.text)) in
     record { state = r.0; text = r.1 }
 
 pub returns-then-words-k : goal.returns-then-words-k
 returns-then-words-k c =
     let r = as_line _
     (job_other _ _ c.if-k-lt4.false c.if-words-k.true)
-    (malformed_said _ c.malformed-then-words-k.ensures) in
+    (malformed_said _ (c.malformed-then-words-k.ensures.state, c.malformed-then-words-k.ensures.text)) in
     record { state = r.0; text = r.1 }
 
 pub slice_bounds-take_job-end-3 : goal.slice_bounds-take_job-end-3
