@@ -2,10 +2,12 @@
 """Spells the repository's own definitions and lemmas in snake case, as the library does: allTo is all_to, up-to-first is up_to_first.
 
 usage: python3 tools/respell.py          at the top of the repository, after port.py
+       python3 tools/respell.py --when   only the choice by a test, below
 
 What it renames: the names that a file of specs/, or a file of lemmas in proofs/, defines (definitions, lemmas, fields and constructors).
 Names of src/, modules, types and names that a proof of a function gets from Rattle stay. It goes by whole words, in specs/, proofs/,
 the clauses of src/ and the must-fail edits. With --list it prints the table and writes nothing.
+The choice by a test, if b then x else y, is when b then x else y: the library has an operator under the first name, which binds otherwise.
 """
 
 import os
@@ -91,8 +93,33 @@ def clauses(text, turn):
     return "".join(out) + text[at:]
 
 
+def when(text):
+    """The choice by a test under its own name; comments stay."""
+    code = lambda l: re.sub(r"(?<![^\s(\[{,;.])if(?![^\s◌])", "when", l)
+    return "\n".join(code(l[: l.find("--")]) + l[l.find("--") :] if "--" in l else code(l) for l in text.split("\n"))
+
+
+def choices(root):
+    for p in files(root, (".antt", ".rt", ".edit")):
+        t = read(p)
+        if p.endswith(".antt"):
+            new = when(t)
+        elif p.endswith(".rt"):
+            new = clauses(t, when)
+        elif re.search(r"^file: .*\.rt$", t, re.M):
+            new = t
+        else:
+            new = "\n".join(when(l) if re.match("(old|new): ", l) else l for l in t.split("\n"))
+        if new != t:
+            with open(p, "w", encoding="utf-8") as f:
+                f.write(new)
+
+
 def main():
     root = os.getcwd()
+    if "--when" in sys.argv:
+        choices(root)
+        return
     names, own = table(root)
 
     def turn(text):
@@ -134,6 +161,7 @@ def main():
         if new != t:
             with open(p, "w", encoding="utf-8") as f:
                 f.write(new)
+    choices(root)
     pages = [os.path.join(root, "README.md")]
     pages += [os.path.join(d, f) for d, _, fs in os.walk(os.path.join(root, "docs")) for f in fs if f.endswith(".md")]
     for p in sorted(pages):

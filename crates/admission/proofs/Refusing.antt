@@ -7,7 +7,7 @@ use native.Mathlib.Omega.{arith}
 use lib.ListN.{length, get_or}
 use lib.Dec.{eqb, ltb}
 use borrow.Author.Tests.{ltb-true, lt-ltb, le-ltb, le-leb, lt-leb, eqb-true, eq-eqb, not-false}
-use Rattle.laws.specs.Bools.{if◌then◌else◌}
+use Rattle.laws.specs.Bools.{when◌then◌else◌}
 use Rattle.laws.specs.Range.{all_to, count_to, first_to, table_to}
 use Rattle.laws.specs.Sequence.{every_in}
 use Rattle.laws.proofs.Bools.{case_bool, and_both, and_left, bool_same, not_is_false}
@@ -65,17 +65,17 @@ module _ (home : List ℕ) (present : List Bool) (kind : List ℕ) (transports c
   Refused k = k ≡ further_refusal home present kind transports count t dests n places
 
   pub refuses_transport : transports ≤ t → Refused 4
-  unfolding further_refusal if◌then◌else◌
+  unfolding further_refusal when◌then◌else◌
   refuses_transport h = rw (le-ltb t transports h) refl
 
   module _ (there : t < transports) where
     pub refuses_none : length dests < 1 → Refused 5
-    unfolding further_refusal within if◌then◌else◌
+    unfolding further_refusal within when◌then◌else◌
     refuses_none h = rw (lt-ltb t transports there, lt-leb 1 (length dests) h) refl
 
     module _ (some : 1 ≤ length dests) where
       pub refuses_many : 256 < length dests → Refused 5
-      unfolding further_refusal within if◌then◌else◌
+      unfolding further_refusal within when◌then◌else◌
       refuses_many h = rw (lt-ltb t transports there, le-leb 1 (length dests) some, lt-leb (length dests) 256 h) refl
 
       module _ (few : length dests ≤ 256) where
@@ -84,7 +84,7 @@ module _ (home : List ℕ) (present : List Bool) (kind : List ℕ) (transports c
         right_length = and_both (le-leb 1 (length dests) some) (le-leb (length dests) 256 few)
 
         pub refuses_other : every_in (on_transport home count t) dests ≡ false → Refused 6
-        unfolding further_refusal if◌then◌else◌
+        unfolding further_refusal when◌then◌else◌
         refuses_other h = rw (lt-ltb t transports there, right_length, h) refl
 
         -- with m entries counted, and j the lowest free number
@@ -94,12 +94,12 @@ module _ (home : List ℕ) (present : List Bool) (kind : List ℕ) (transports c
           number_says = rw (counted, lowest, all_present (λ i. get_or present i false))
 
           pub refuses_number : ltb 0 m && eqb j 32 ≡ true → Refused 7
-          unfolding further_refusal if◌then◌else◌
+          unfolding further_refusal when◌then◌else◌
           refuses_number h = rw (lt-ltb t transports there, right_length, theirs, ← number_says, h) refl
 
           module _ (number : ltb 0 m && eqb j 32 ≡ false) (free : ℕ) (room : free ≡ count_to (free_in kind) 512) where
             pub refuses_places : free < m → Refused 8
-            unfolding further_refusal if◌then◌else◌
+            unfolding further_refusal when◌then◌else◌
             refuses_places h =
                 let less : ltb (count_to (free_in kind) 512) n ≡ true = rw (← room, ← counted) (lt-ltb free m h) in
                 rw (lt-ltb t transports there, right_length, theirs, ← number_says, number, less) refl
@@ -109,12 +109,12 @@ module _ (home : List ℕ) (present : List Bool) (kind : List ℕ) (transports c
               not_less = rw (← room, ← counted) (le-ltb free m enough)
 
               pub refuses_list : places < length dests → Refused 10
-              unfolding further_refusal if◌then◌else◌
+              unfolding further_refusal when◌then◌else◌
               refuses_list h =
                   rw (lt-ltb t transports there, right_length, theirs, ← number_says, number, not_less, lt-ltb places (length dests) h) refl
 
               pub refuses_nothing : length dests ≤ places → Refused 0
-              unfolding further_refusal if◌then◌else◌
+              unfolding further_refusal when◌then◌else◌
               refuses_nothing h =
                   rw (lt-ltb t transports there, right_length, theirs, ← number_says, number, not_less, le-ltb places (length dests) h) refl
 
@@ -134,12 +134,12 @@ module _ (s : State) (now t : ℕ) (dests list : List ℕ) (whole : sound s ≡ 
       further_refusal s.setup.home s.jobs.present s.entries.kind s.setup.transports s.setup.destinations t dests n (length list)
 
   further_counted : further (n_of (woken s now) dests) ≡ job_refusal s now t dests list
-  unfolding further_refusal job_refusal lacks_number lacks_places on_transport is_destination_on free_in woken if◌then◌else◌
+  unfolding further_refusal job_refusal lacks_number lacks_places on_transport is_destination_on free_in woken when◌then◌else◌
   further_counted = rw (whole, good) refl
 
   -- where a destination is another transport's, that number is not asked
   further_other : every_in (on_transport s.setup.home s.setup.destinations t) dests ≡ false → (n m : ℕ) → further n ≡ further m
-  unfolding further_refusal if◌then◌else◌
+  unfolding further_refusal when◌then◌else◌
   further_other h n m = rw h refl
 
   pub further_is : (dead : List Bool) → dead ≡ table_to (dead_on (woken s now).destinations) 32 → further (length (kept_by dead dests)) ≡ job_refusal s now t dests list

@@ -1,6 +1,6 @@
 -- What the tests of a job read of a state, over the columns that its functions are lent.
 use Rattle.std.specs.Prelude.{ℕ, Bool, false, not, ◌&&◌, List, length, get_or, eqb, ltb}
-use Rattle.laws.specs.Bools.{if◌then◌else◌}
+use Rattle.laws.specs.Bools.{when◌then◌else◌}
 use Rattle.laws.specs.Range.{all_to, count_to, chosen_to}
 use Rattle.laws.specs.Sequence.{every_in, keep}
 use Rattle.rules.specs.declared.Destination.{Destination}
@@ -31,10 +31,10 @@ put_off_by dead dests = chosen_to (λ i. get_or dead (at dests i) false) (length
 -- and destinations, the job's transport and destinations, how many of these are not dead, and how many places the list has
 unfoldable pub further_refusal : List ℕ → List Bool → List ℕ → ℕ → ℕ → ℕ → List ℕ → ℕ → ℕ → ℕ
 further_refusal home present kind transports count t dests n places =
-    if not (ltb t transports) then 4
-    else if not (within 1 max_length (length dests)) then 5
-    else if not (every_in (on_transport home count t) dests) then 6
-    else if ltb 0 n && all_to (λ j. get_or present j false) max_jobs then 7
-    else if ltb (count_to (free_in kind) max_entries) n then 8
-    else if ltb places (length dests) then 10
+    when not (ltb t transports) then 4
+    else when not (within 1 max_length (length dests)) then 5
+    else when not (every_in (on_transport home count t) dests) then 6
+    else when ltb 0 n && all_to (λ j. get_or present j false) max_jobs then 7
+    else when ltb (count_to (free_in kind) max_entries) n then 8
+    else when ltb places (length dests) then 10
     else 0

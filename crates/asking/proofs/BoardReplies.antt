@@ -5,7 +5,7 @@ use mathlib.Core.Bool.{true}
 use mathlib.Core.List.{List, [], ◌∷◌, ◌++◌}
 use lib.ListN.{length, drop}
 use borrow.Author.Tests.{lt-ltb, le-ltb}
-use Rattle.laws.specs.Bools.{if◌then◌else◌}
+use Rattle.laws.specs.Bools.{when◌then◌else◌}
 use Rattle.rules.specs.declared.State.{State}
 use Rattle.rules.specs.Sound.{sound}
 use Rattle.rules.specs.Board.{text_of, board_text}
@@ -19,7 +19,7 @@ module _ (s : State) (buffer : List ℕ) where
 
   pub board_short : (need : ℕ) → sound s ≡ true → need ≡ length text → length buffer < need
       → record { says = refused 10; state = s; buffer = buffer } ≡ board_reply s buffer
-  unfolding reply_to board_refusal board_text unless_refused if◌then◌else◌
+  unfolding reply_to board_refusal board_text unless_refused when◌then◌else◌
   board_short need h e l = rw (h, lt-ltb (length buffer) (length text) (subst (λ n. length buffer < n) e l)) refl
 
   pub board_fits : (need : ℕ) → need ≡ length text → need ≤ length buffer → length text ≤ length buffer
@@ -27,5 +27,5 @@ module _ (s : State) (buffer : List ℕ) where
 
   pub board_written : (n : ℕ) (out : List ℕ) → sound s ≡ true → length text ≤ length buffer → n ≡ length text → out ≡ text ++ drop (length text) buffer
       → record { says = granted (n ∷ []); state = s; buffer = out } ≡ board_reply s buffer
-  unfolding reply_to board_refusal board_text unless_refused if◌then◌else◌
+  unfolding reply_to board_refusal board_text unless_refused when◌then◌else◌
   board_written n out h l e f = rw (h, le-ltb (length buffer) (length text) l, e, f) refl

@@ -2,7 +2,7 @@
 use Prim.Native.Nat.{ℕ}
 use mathlib.Core.Path.{◌≡◌, refl}
 use mathlib.Core.List.{List, [], ◌∷◌}
-use Rattle.laws.specs.Bools.{if◌then◌else◌}
+use Rattle.laws.specs.Bools.{when◌then◌else◌}
 use Rattle.laws.specs.Sequence.{every_in}
 use Rattle.rules.specs.declared.Outcome.{Outcome}
 use Rattle.rules.specs.declared.Outcome.TheVariants
@@ -29,7 +29,7 @@ pub lines_say :
     -- "#pick 1", and a line of blanks
     × (meaning_of (35 ∷ 112 ∷ 105 ∷ 99 ∷ 107 ∷ 32 ∷ 49 ∷ []) [] [] ≡ nothing)
     × (meaning_of (32 ∷ 32 ∷ []) [] [] ≡ nothing)
-unfolding longer pieces not_empty words_of same_bytes value_from value_of is_number all_numbers every_in if◌then◌else◌ job_line pick_line report_line outcome_of call_line meaning_of_words meaning_of
+unfolding longer pieces not_empty words_of same_bytes value_from value_of is_number all_numbers every_in when◌then◌else◌ job_line pick_line report_line outcome_of call_line meaning_of_words meaning_of
 lines_say = (refl, refl, refl, refl, refl, refl, refl)
 
 -- a reply that says this, with this in the buffer
@@ -54,5 +54,5 @@ pub replies_say :
     × (reply_text (board []) (saying (granted (3 ∷ [])) (65 ∷ 10 ∷ 66 ∷ 67 ∷ [])) ≡ 98 ∷ 111 ∷ 97 ∷ 114 ∷ 100 ∷ 32 ∷ 51 ∷ 32 ∷ 65 ∷ 124 ∷ 66 ∷ 10 ∷ [])
     -- "refused 10"
     × (reply_text (board []) (saying (refused 10) []) ≡ 114 ∷ 101 ∷ 102 ∷ 117 ∷ 115 ∷ 101 ∷ 100 ∷ 32 ∷ 49 ∷ 48 ∷ 10 ∷ [])
-unfolding numbers shown_byte decimal_in decimal if◌then◌else◌ values_text reply_text
+unfolding numbers shown_byte decimal_in decimal when◌then◌else◌ values_text reply_text
 replies_say = (refl, refl, refl, refl, refl, refl, refl, refl)

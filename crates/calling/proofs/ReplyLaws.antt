@@ -6,7 +6,7 @@ use native.Mathlib.Omega.{arith}
 use lib.ListN.{length, drop, length-append}
 use lib.Seq.{take-append-le}
 use lib.Dec.{eqb}
-use Rattle.laws.specs.Bools.{if◌then◌else◌}
+use Rattle.laws.specs.Bools.{when◌then◌else◌}
 use Rattle.laws.proofs.Bools.{case_bool}
 use Rattle.rules.specs.declared.Setup.{Setup}
 use Rattle.rules.specs.declared.State.{State}
@@ -71,7 +71,7 @@ module _ (s : State) {x : State} {e y : List ℕ} {n : ℕ} where
 -- Set-ups.
 
 start_text_lem : (u : Setup) (a : SetupAnswer) → setup_says a ≡ (setup_reply u).says → accepts a ≡ setup_in_range u → setup_text a ≡ start_text u
-unfolding setup_text start_text if◌then◌else◌
+unfolding setup_text start_text when◌then◌else◌
 start_text_lem u (SetupAnswer.Refused k) h q = rw (← q) (ap (λ w. refused_text w.refusal) h)
 start_text_lem u SetupAnswer.Accepted h q = rw (← q) refl
 
@@ -105,7 +105,7 @@ written_fits vs buffer = rw (length-append vs (drop (length vs) buffer)) (omega 
 
 module _ (s : State) (now : ℕ) where
   job_fits : (t : ℕ) (dests list : List ℕ) → Fits last (job_reply s now t dests list)
-  unfolding reply_to taking_reply last if◌then◌else◌
+  unfolding reply_to taking_reply last when◌then◌else◌
   job_fits t dests list =
       let w = written_fits (put_off_positions (woken s now) dests) list in
       unless_fits last refl (job_refusal s now t dests list) s list (taking_reply (woken s now) now t dests list)
@@ -126,7 +126,7 @@ board_fits s buffer = unless_fits first refl (board_refusal s buffer) s buffer _
 module _ (now t : ℕ) (dests list buffer rest : List ℕ) where
   job_text_lem : (z : State) (a : JobAnswer) → last (job_says a).values ≤ length buffer
       → job_text a (buffer ++ rest) ≡ reply_text (job now t dests list) (record { says = job_says a; state = z; buffer = buffer })
-  unfolding job_text reply_text values_text last if◌then◌else◌
+  unfolding job_text reply_text values_text last when◌then◌else◌
   job_text_lem z (JobAnswer.Refused k) h = refl
   job_text_lem z (JobAnswer.Taken j k) h = ap (λ l. job_name ++ numbered j ++ (numbered k ++ numbers l) ++ line_end) (take-append-le k buffer rest h)
   job_text_lem z (JobAnswer.PutOff k) h = ap (λ l. nojob_name ++ (numbered k ++ numbers l) ++ line_end) (take-append-le k buffer rest h)
@@ -142,7 +142,7 @@ module _ (now t : ℕ) (dests list buffer rest : List ℕ) where
 
 module _ (now : ℕ) where
   pick_text_lem : (z : State) (a : PickAnswer) → pick_text a ≡ reply_text (pick now) (record { says = pick_says a; state = z; buffer = [] })
-  unfolding pick_text reply_text values_text if◌then◌else◌
+  unfolding pick_text reply_text values_text when◌then◌else◌
   pick_text_lem z (PickAnswer.Refused k) = refl
   pick_text_lem z (PickAnswer.Picked j i ticket passed) = refl
   pick_text_lem z PickAnswer.Nothing = refl
@@ -157,7 +157,7 @@ module _ (now : ℕ) where
 module _ (now i ticket : ℕ) (o : Outcome) (list buffer rest : List ℕ) where
   report_text_lem : (z : State) (a : ReportAnswer) → first (report_says a).values ≤ length buffer
       → report_text a (buffer ++ rest) ≡ reply_text (report now i ticket o list) (record { says = report_says a; state = z; buffer = buffer })
-  unfolding report_text reply_text values_text if◌then◌else◌
+  unfolding report_text reply_text values_text when◌then◌else◌
   report_text_lem z (ReportAnswer.Refused k) h = refl
   report_text_lem z (ReportAnswer.Reported k m) h =
       ap (λ l. report_name ++ (numbered k ++ numbers l) ++ blank ++ move_word (move_number m) ++ line_end) (take-append-le k buffer rest h)
@@ -173,7 +173,7 @@ module _ (now i ticket : ℕ) (o : Outcome) (list buffer rest : List ℕ) where
 
 module _ (j : ℕ) where
   ask_text_lem : (z : State) (a : AskAnswer) → ask_text a ≡ reply_text (ask j) (record { says = ask_says a; state = z; buffer = [] })
-  unfolding ask_text reply_text values_text if◌then◌else◌
+  unfolding ask_text reply_text values_text when◌then◌else◌
   ask_text_lem z (AskAnswer.Refused k) = refl
   ask_text_lem z (AskAnswer.Overtakers sum) = refl
 
@@ -187,7 +187,7 @@ module _ (j : ℕ) where
 module _ (text buffer rest : List ℕ) where
   board_text_lem : (z : State) (a : BoardAnswer) → first (board_says a).values ≤ length buffer
       → board_answer_text a (buffer ++ rest) ≡ reply_text (board text) (record { says = board_says a; state = z; buffer = buffer })
-  unfolding board_answer_text reply_text values_text if◌then◌else◌
+  unfolding board_answer_text reply_text values_text when◌then◌else◌
   board_text_lem z (BoardAnswer.Refused k) h = refl
   board_text_lem z (BoardAnswer.Written k) h = ap (λ l. board_name ++ numbered k ++ blank ++ map shown_byte l ++ line_end) (take-append-le k buffer rest h)
 

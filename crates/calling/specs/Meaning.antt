@@ -1,6 +1,6 @@
 -- What a line of the console says, and what becomes of the state.
 use Rattle.std.specs.Prelude.{ℕ, ◌+◌, ◌&&◌, List, [], ◌∷◌, length, take, drop, eqb, leb}
-use Rattle.laws.specs.Bools.{if◌then◌else◌}
+use Rattle.laws.specs.Bools.{when◌then◌else◌}
 use Rattle.rules.specs.declared.Setup.{Setup}
 use Rattle.rules.specs.declared.State.{State}
 use Rattle.rules.specs.State.{at}
@@ -21,53 +21,53 @@ pub data Line : Type 0 where
 
 -- T, T times 13 numbers, D, D transport numbers
 unfoldable pub setup_line : List ℕ → Line
-setup_line words = if announced words then setup (setup_of words) else malformed
+setup_line words = when announced words then setup (setup_of words) else malformed
 
 -- clock transport list-places count, then count destinations
 unfoldable pub job_line : List ℕ → List ℕ → Line
 job_line words list =
-    if eqb (length words) (4 + at words 3)
+    when eqb (length words) (4 + at words 3)
     then call (job (at words 0) (at words 1) (drop 4 words) (take (at words 2) list))
     else malformed
 
 -- clock
 unfoldable pub pick_line : List ℕ → Line
-pick_line words = if eqb (length words) 1 then call (pick (at words 0)) else malformed
+pick_line words = when eqb (length words) 1 then call (pick (at words 0)) else malformed
 
 -- clock entry ticket outcome list-places
 unfoldable pub report_line : List ℕ → List ℕ → Line
 report_line words list =
-    if eqb (length words) 5 && leb (at words 3) 1
+    when eqb (length words) 5 && leb (at words 3) 1
     then call (report (at words 0) (at words 1) (at words 2) (outcome_of (at words 3)) (take (at words 4) list))
     else malformed
 
 -- job
 unfoldable pub ask_line : List ℕ → Line
-ask_line words = if eqb (length words) 1 then call (ask (at words 0)) else malformed
+ask_line words = when eqb (length words) 1 then call (ask (at words 0)) else malformed
 
 -- buffer-length
 unfoldable pub board_line : List ℕ → List ℕ → Line
-board_line words text = if eqb (length words) 1 then call (board (take (at words 0) text)) else malformed
+board_line words text = when eqb (length words) 1 then call (board (take (at words 0) text)) else malformed
 
 -- A name and its numbers.
 unfoldable pub call_line : List ℕ → List ℕ → List ℕ → List ℕ → Line
 call_line name words list text =
-    if same_bytes name setup_name then setup_line words
-    else if same_bytes name job_name then job_line words list
-    else if same_bytes name pick_name then pick_line words
-    else if same_bytes name report_name then report_line words list
-    else if same_bytes name ask_name then ask_line words
-    else if same_bytes name board_name then board_line words text
+    when same_bytes name setup_name then setup_line words
+    else when same_bytes name job_name then job_line words list
+    else when same_bytes name pick_name then pick_line words
+    else when same_bytes name report_name then report_line words list
+    else when same_bytes name ask_name then ask_line words
+    else when same_bytes name board_name then board_line words text
     else malformed
 
 -- A line's words: the first is the name, each other a number.
 unfoldable pub meaning_of_words : List (List ℕ) → List ℕ → List ℕ → Line
 meaning_of_words [] list text = nothing
-meaning_of_words (name ∷ words) list text = if all_numbers words then call_line name (numbers_of words) list text else malformed
+meaning_of_words (name ∷ words) list text = when all_numbers words then call_line name (numbers_of words) list text else malformed
 
 -- A line, with what the lent list and the lent text hold.
 unfoldable pub meaning_of : List ℕ → List ℕ → List ℕ → Line
-meaning_of line list text = if eqb (at line 0) 35 then nothing else meaning_of_words (words_of line) list text
+meaning_of line list text = when eqb (at line 0) 35 then nothing else meaning_of_words (words_of line) list text
 
 -- What becomes of the state.
 unfoldable pub state_on : State → Line → State
@@ -79,10 +79,10 @@ state_on s (call c) = (reply_to s c).state
 -- How the code numbers the names; 0 for any other.
 unfoldable pub kind_of : List ℕ → ℕ
 kind_of name =
-    if same_bytes name setup_name then 1
-    else if same_bytes name job_name then 2
-    else if same_bytes name pick_name then 3
-    else if same_bytes name report_name then 4
-    else if same_bytes name ask_name then 5
-    else if same_bytes name board_name then 6
+    when same_bytes name setup_name then 1
+    else when same_bytes name job_name then 2
+    else when same_bytes name pick_name then 3
+    else when same_bytes name report_name then 4
+    else when same_bytes name ask_name then 5
+    else when same_bytes name board_name then 6
     else 0

@@ -1,6 +1,6 @@
 -- The text that answers a line of the console, from the rules' reply.
 use Rattle.std.specs.Prelude.{ℕ, List, [], ◌++◌, map, length, take, eqb}
-use Rattle.laws.specs.Bools.{if◌then◌else◌}
+use Rattle.laws.specs.Bools.{when◌then◌else◌}
 use Rattle.rules.specs.declared.Setup.{Setup}
 use Rattle.rules.specs.declared.State.{State}
 use Rattle.rules.specs.State.{at}
@@ -15,12 +15,12 @@ use Rattle.calling.specs.Meaning.{Line, nothing, malformed, setup, call}
 unfoldable pub values_text : Call → List ℕ → List ℕ → List ℕ
 -- job number, how many were put off, their positions; with one value, all were put off and no job came to be
 values_text (job now t dests list) values buffer =
-    if eqb (length values) 1
+    when eqb (length values) 1
     then nojob_name ++ counted (at values 0) buffer ++ line_end
     else job_name ++ numbered (at values 0) ++ counted (at values 1) buffer ++ line_end
 -- job, entry, ticket, jobs passed over; with one value, nothing was picked
 values_text (pick now) values buffer =
-    if eqb (length values) 1
+    when eqb (length values) 1
     then nopick_name ++ numbered (at values 0) ++ line_end
     else pick_name ++ numbered (at values 0) ++ numbered (at values 1) ++ numbered (at values 2) ++ numbered (at values 3) ++ line_end
 -- how many were put off, their entry numbers, why the destination's number moved
@@ -35,13 +35,13 @@ values_text (board text) values buffer =
 -- A call: a refused one has no values.
 unfoldable pub reply_text : Call → Reply → List ℕ
 reply_text c r =
-    if eqb (length r.says.values) 0
+    when eqb (length r.says.values) 0
     then refused_text r.says.refusal
     else values_text c r.says.values r.buffer
 
 -- A set-up: an accepted one has no values either.
 unfoldable pub start_text : Setup → List ℕ
-start_text u = if setup_in_range u then setup_name ++ line_end else refused_text (setup_reply u).says.refusal
+start_text u = when setup_in_range u then setup_name ++ line_end else refused_text (setup_reply u).says.refusal
 
 -- What a line is answered with.
 unfoldable pub text_on : State → Line → List ℕ

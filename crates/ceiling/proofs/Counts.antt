@@ -7,7 +7,7 @@ use native.Mathlib.Omega.{arith}
 use native.Mathlib.Decide.{dec_lt}
 use lib.Dec.{eqb, ltb}
 use borrow.Author.Tests.{eqb-true, ltb-true, eq-eqb}
-use Rattle.laws.specs.Bools.{if◌then◌else◌, one}
+use Rattle.laws.specs.Bools.{when◌then◌else◌, one}
 use Rattle.laws.specs.Range.{sum_to}
 use Rattle.laws.proofs.Bools.{if_true, if_same, if_add, one_within}
 use Rattle.laws.proofs.Update.{at_or_off, upd_same, upd_other, upd_below, upd_all, upd_suc, upd_add}
@@ -45,7 +45,7 @@ module _ {g : Columns} (w : Low g) (c : Counts g) where
       new : (r : ℕ) → r < suc g.rows → above (add_row g t k) g.rows r ≡ true → (add_row g t k).picked r ≡ 0
       new = at_or_off _ g.rows (λ l e. upd_same _ _ _) (λ r h l e. let b = (above_true (add_row g t k) g.rows r e).1 in omega (arith, simp upd_other at b, low_self w r (omega arith)))
 
-      own : sum_to (λ r. if eqb ((add_row g t k).transport r) t then (add_row g t k).n r else 0) g.rows ≡ of_transport g t g.n g.rows
+      own : sum_to (λ r. when eqb ((add_row g t k).transport r) t then (add_row g t k).n r else 0) g.rows ≡ of_transport g t g.n g.rows
       own = sum_eq _ _ g.rows (λ i l. simp upd_below)
 
       older : (j : ℕ) → j < g.rows → of_transport g (g.transport j) g.n (suc j) ≡ of_transport (add_row g t k) (g.transport j) (add_row g t k).n (suc j)
@@ -57,7 +57,7 @@ module _ {g : Columns} (w : Low g) (c : Counts g) where
   pub counts_preempt : {cost : ℕ → ℕ} {x y m : ℕ} → Preempting cost g x y m → Counts (preempt g x y m)
   counts_preempt {x = x} {y} {m} p = record { counted = c.counted; behind = λ j l q. rw beyond_preempt (c.behind j l q); passed = c.passed; sums = c.sums }
     where
-      each : (j i : ℕ) → (if above (preempt g x y m) j i then g.picked i else 0) ≡ (if above g j i then g.picked i else 0)
+      each : (j i : ℕ) → (when above (preempt g x y m) j i then g.picked i else 0) ≡ (when above g j i then g.picked i else 0)
       each j = at_or_off _ x (rw p.unpicked (if_same _ 0 ∙ sym (if_same _ 0))) (λ r h. simp upd_other)
 
       beyond_preempt : (j : ℕ) → beyond (preempt g x y m) j ≡ beyond g j
@@ -96,7 +96,7 @@ module _ {g : Columns} (w : Low g) (c : Counts g) where
         grown : (t : ℕ) → (pick g x k by).total t ≡ of_transport (pick g x k by) t (pick g x k by).blocked g.rows
         grown t =
             upd_add g.total (g.transport x) k t
-            ∙ ap₂ ◌+◌ (c.passed t) (ap (λ n. if eqb (g.transport x) t then n else 0) (sym p.number) ∙ sym (sum_if_all (eqb (g.transport x) t) by g.rows))
+            ∙ ap₂ ◌+◌ (c.passed t) (ap (λ n. when eqb (g.transport x) t then n else 0) (sym p.number) ∙ sym (sum_if_all (eqb (g.transport x) t) by g.rows))
             ∙ sym (sum_add _ _ g.rows)
             ∙ sum_eq _ _ g.rows (λ r l. sym (if_add (eqb (g.transport r) t) (eqb (g.transport x) t) (g.blocked r) (by r) (λ q. ap (λ v. eqb v t) (p.same r l q))))
 

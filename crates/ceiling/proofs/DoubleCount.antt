@@ -7,7 +7,7 @@ use native.Mathlib.Decide.{dec_lt}
 use native.Mathlib.Omega.{arith}
 use lib.Dec.{eqb, ltb, leb}
 use borrow.Author.Tests.{eqb-true, ltb-true, leb-true, eq-eqb, lt-ltb, le-leb}
-use Rattle.laws.specs.Bools.{if◌then◌else◌}
+use Rattle.laws.specs.Bools.{when◌then◌else◌}
 use Rattle.laws.specs.Range.{sum_to}
 use Rattle.laws.proofs.Bools.{if_true, if_cases}
 use Rattle.laws.proofs.Sum.{sum_le, sum_eq, sum_le_add, sum_mul, sum_swap, sum_term, sum_if_zero, sum_if_all, sum_below}
@@ -27,8 +27,8 @@ pub record Ceiling (c p u b : ℕ) : Type 0 where
   pub dear : 2 ≤ c → p ≤ u + u / (c - 1) + b
   pub free : c ≡ 0 → p ≤ u + b
 
-scaled : (b : Bool) (c s a : ℕ) → (b ≡ true → c * s ≤ a) → c * (if b then s else 0) ≤ (if b then a else 0)
-unfolding if◌then◌else◌
+scaled : (b : Bool) (c s a : ℕ) → (b ≡ true → c * s ≤ a) → c * (when b then s else 0) ≤ (when b then a else 0)
+unfolding when◌then◌else◌
 scaled true c s a h = h refl
 scaled false c s a h = omega arith
 
@@ -58,20 +58,20 @@ module _ (g : Columns) (j r : ℕ) where
 
 -- cap over the near rows, and over those of them that come after j; what the near rows have sold
 abbrev near_cap : Columns → ℕ → ℕ
-near_cap g j = sum_to (λ r. if near g j r then g.cap r else 0) g.rows
+near_cap g j = sum_to (λ r. when near g j r then g.cap r else 0) g.rows
 
 abbrev later_cap : Columns → ℕ → ℕ
-later_cap g j = sum_to (λ r. if later g j r then g.cap r else 0) g.rows
+later_cap g j = sum_to (λ r. when later g j r then g.cap r else 0) g.rows
 
 abbrev near_sold : Columns → ℕ → ℕ
-near_sold g j = sum_to (λ y. if near g j y then sold g y else 0) g.rows
+near_sold g j = sum_to (λ y. when near g j y then sold g y else 0) g.rows
 
 module _ {cost : ℕ → ℕ} {g : Columns} (f : Forest cost g) (w : Low g) (j : ℕ) where
   picked_near : of_transport g (g.transport j) g.picked g.rows ≤ near_cap g j + beyond g j
   picked_near = sum_le_add _ _ _ g.rows (λ r l. if_cases (λ v. v ≤ share r) _ (λ e. each r l e) (λ e. omega arith))
     where
       share : ℕ → ℕ
-      share r = (if near g j r then g.cap r else 0) + (if above g j r then g.picked r else 0)
+      share r = (when near g j r then g.cap r else 0) + (when above g j r then g.picked r else 0)
 
       each : (r : ℕ) → r < g.rows → eqb (g.transport r) (g.transport j) ≡ true → g.picked r ≤ share r
       each r l e = elim (dec_lt j (g.low r)) [
@@ -83,13 +83,13 @@ module _ {cost : ℕ → ℕ} {g : Columns} (f : Forest cost g) (w : Low g) (j :
   near_later = le_trans (sum_le_add _ early late g.rows (λ r l. if_cases (λ v. v ≤ early r + late r) _ (λ e. each r l e) (λ e. omega arith))) (omega (arith, sum_below own (suc j) g.rows))
     where
       own : ℕ → ℕ
-      own r = if eqb (g.transport r) (g.transport j) then g.n r else 0
+      own r = when eqb (g.transport r) (g.transport j) then g.n r else 0
 
       early : ℕ → ℕ
-      early r = if ltb r (suc j) then own r else 0
+      early r = when ltb r (suc j) then own r else 0
 
       late : ℕ → ℕ
-      late r = if later g j r then g.cap r else 0
+      late r = when later g j r then g.cap r else 0
 
       each : (r : ℕ) → r < g.rows → near g j r ≡ true → g.cap r ≤ early r + late r
       each r l e = elim (dec_lt j r) [
@@ -115,14 +115,14 @@ module _ {cost : ℕ → ℕ} {g : Columns} (f : Forest cost g) (w : Low g) (j :
   later_sold = le_trans (sum_le _ _ g.rows each) (le_of_eq (sum_swap share g.rows g.rows ∙ sum_eq _ _ g.rows (λ y l. sum_if_all (near g j y) _ g.rows)))
     where
       share : ℕ → ℕ → ℕ
-      share r y = if near g j y then (if eqb (g.names r) (suc y) then g.cap r else 0) else 0
+      share r y = when near g j y then (when eqb (g.names r) (suc y) then g.cap r else 0) else 0
 
-      each : (r : ℕ) → r < g.rows → (if later g j r then g.cap r else 0) ≤ sum_to (λ y. share r y) g.rows
+      each : (r : ℕ) → r < g.rows → (when later g j r then g.cap r else 0) ≤ sum_to (λ y. share r y) g.rows
       each r l = if_cases (λ v. v ≤ sum_to (λ y. share r y) g.rows) _ (λ e. one_share (later_names r l e)) (λ e. omega arith)
         where
           one_share : (y : ℕ) × (g.names r ≡ suc y) × (near g j y ≡ true) → g.cap r ≤ sum_to (λ y. share r y) g.rows
           one_share (y, e, q) =
-              omega (arith, sum_term (λ y. share r y) y g.rows (f.named r y l e).inside, if_true (if eqb (g.names r) (suc y) then g.cap r else 0) 0 q, if_true (g.cap r) 0 (eq-eqb _ _ e))
+              omega (arith, sum_term (λ y. share r y) y g.rows (f.named r y l e).inside, if_true (when eqb (g.names r) (suc y) then g.cap r else 0) 0 q, if_true (g.cap r) 0 (eq-eqb _ _ e))
 
   sold_near : cost (g.transport j) * near_sold g j ≤ near_cap g j
   sold_near = rw (← sum_mul) (sum_le _ _ g.rows (λ y l. scaled (near g j y) _ _ _ (λ e. rw (sym (near_true g j y e).0) (f.paid y l))))

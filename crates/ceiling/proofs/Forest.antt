@@ -6,7 +6,7 @@ use native.Mathlib.Nat.{suc_inj, le_refl, le_trans}
 use native.Mathlib.Omega.{arith}
 use lib.Dec.{eqb}
 use borrow.Author.Tests.{eqb-true, eq-eqb, ne_eqb}
-use Rattle.laws.specs.Bools.{if◌then◌else◌}
+use Rattle.laws.specs.Bools.{when◌then◌else◌}
 use Rattle.laws.specs.Range.{sum_to}
 use Rattle.laws.specs.Update.{upd}
 use Rattle.laws.proofs.Bools.{if_true, if_false}
@@ -32,10 +32,10 @@ pub record Forest (cost : ℕ → ℕ) (g : Columns) : Type 0 where
 
 -- row x, which named nobody, names y now: v' at x is added to what y's namers have
 pub named_sum : (names v v' : ℕ → ℕ) (x y rows : ℕ) → x < rows → names x ≡ 0 → ((i : ℕ) → i ≢ x → v' i ≡ v i) → (z : ℕ)
-    → sum_to (λ r. if eqb (upd names x (suc y) r) (suc z) then v' r else 0) rows
-    ≡ sum_to (λ r. if eqb (names r) (suc z) then v r else 0) rows + (if eqb (suc y) (suc z) then v' x else 0)
+    → sum_to (λ r. when eqb (upd names x (suc y) r) (suc z) then v' r else 0) rows
+    ≡ sum_to (λ r. when eqb (names r) (suc z) then v r else 0) rows + (when eqb (suc y) (suc z) then v' x else 0)
 named_sum names v v' x y rows l e h z =
-    let c = sum_change (λ r. if eqb (names r) (suc z) then v r else 0) (λ r. if eqb (upd names x (suc y) r) (suc z) then v' r else 0) x rows l (λ i k o. rw (upd_other names x (suc y) i o, h i o)) in
+    let c = sum_change (λ r. when eqb (names r) (suc z) then v r else 0) (λ r. when eqb (upd names x (suc y) r) (suc z) then v' r else 0) x rows l (λ i k o. rw (upd_other names x (suc y) i o, h i o)) in
     let old = if_false (v x) 0 (ne_eqb (names x) (suc z) (omega arith)) in
     omega (arith, rw upd_same at c)
 
@@ -80,7 +80,7 @@ module _ {cost : ℕ → ℕ} {g : Columns} (f : Forest cost g) where
           }
 
   module _ {x y m : ℕ} (p : Preempting cost g x y m) where
-    sold_preempt : (z : ℕ) → sold (preempt g x y m) z ≡ sold g z + (if eqb (suc y) (suc z) then m else 0)
+    sold_preempt : (z : ℕ) → sold (preempt g x y m) z ≡ sold g z + (when eqb (suc y) (suc z) then m else 0)
     sold_preempt z = named_sum g.names g.cap (upd g.cap x m) x y g.rows p.inside p.unnaming (λ i h. upd_other _ _ _ i h) z ∙ simp upd_same
 
     pub sold_preempt_own : sold (preempt g x y m) y ≡ sold g y + m

@@ -7,7 +7,7 @@ use native.Mathlib.Nat.{le_refl, le_trans, suc_inj, mul-le-mul_left}
 use native.Mathlib.Omega.{arith}
 use lib.Dec.{eqb}
 use borrow.Author.Tests.{eqb-true, eq-eqb, ne_eqb}
-use Rattle.laws.specs.Bools.{if◌then◌else◌}
+use Rattle.laws.specs.Bools.{when◌then◌else◌}
 use Rattle.laws.specs.Chain.{along_chain}
 use Rattle.laws.specs.Update.{upd}
 use Rattle.laws.proofs.Bools.{if_true, if_false}
@@ -27,8 +27,8 @@ smaller zero a b p l k = omega arith
 smaller (suc d) a b p l k = omega (arith, mul-le-mul_left d l)
 
 -- one namer's part and overtakers, against its part alone
-paid_part : (b : Bool) (c a o : ℕ) → (b ≡ true → c * o ≤ a + o) → c * (if b then a + o else 0) ≤ c * (if b then a else 0) + (if b then a + o else 0)
-unfolding if◌then◌else◌
+paid_part : (b : Bool) (c a o : ℕ) → (b ≡ true → c * o ≤ a + o) → c * (when b then a + o else 0) ≤ c * (when b then a else 0) + (when b then a + o else 0)
+unfolding when◌then◌else◌
 paid_part true c a o h = omega (arith, h refl)
 paid_part false c a o h = omega arith
 
@@ -47,10 +47,10 @@ module _ {cost : ℕ → ℕ} {g : Columns} (f : Forest cost g) where
         c = cost (g.transport y)
 
         part : ℕ → ℕ
-        part r = if eqb (g.names r) (suc y) then g.cap r else 0
+        part r = when eqb (g.names r) (suc y) then g.cap r else 0
 
         all : ℕ → ℕ
-        all r = if eqb (g.names r) (suc y) then g.cap r + over r else 0
+        all r = when eqb (g.names r) (suc y) then g.cap r + over r else 0
 
         each : (r : ℕ) → r < g.rows → c * all r ≤ c * part r + all r
         each r k = paid_part _ c (g.cap r) (over r) (λ e. let h = (f.named r y k (eqb-true _ _ e)).same in rw h (o.paid r k))
@@ -63,8 +63,8 @@ module _ {cost : ℕ → ℕ} {g : Columns} (f : Forest cost g) where
       bought_named : (y : ℕ) → g.names z ≡ suc y → bought g (overtake m z over) y ≡ bought g over y + m
       bought_named y e =
           let t = eq-eqb (g.names z) (suc y) e in
-          let c = sum_change (λ r. if eqb (g.names r) (suc y) then g.cap r + over r else 0)
-          (λ r. if eqb (g.names r) (suc y) then g.cap r + overtake m z over r else 0) z g.rows l (λ i k q. rw (upd_other over z (over z + m) i q)) in
+          let c = sum_change (λ r. when eqb (g.names r) (suc y) then g.cap r + over r else 0)
+          (λ r. when eqb (g.names r) (suc y) then g.cap r + overtake m z over r else 0) z g.rows l (λ i k q. rw (upd_other over z (over z + m) i q)) in
           omega (arith, simp (upd_same, if_true) at c)
 
       overtaken_more : Overtaken cost g (overtake m z over)
@@ -102,7 +102,7 @@ module _ {cost : ℕ → ℕ} {g : Columns} (f : Forest cost g) (o : Overtaken c
   overtaken_preempt {x} {y} {m} p =
       walk (forest_preempt f p) m g.rows (suc y) g.over start (λ z e. subst (λ z. (z < g.rows) × (g.over z + m ≤ bought (preempt g x y m) g.over z)) (suc_inj e) (p.other, room))
     where
-      bought_preempt : (z : ℕ) → bought (preempt g x y m) g.over z ≡ bought g g.over z + (if eqb (suc y) (suc z) then upd g.cap x m x + g.over x else 0)
+      bought_preempt : (z : ℕ) → bought (preempt g x y m) g.over z ≡ bought g g.over z + (when eqb (suc y) (suc z) then upd g.cap x m x + g.over x else 0)
       bought_preempt = named_sum g.names (λ r. g.cap r + g.over r) (λ r. upd g.cap x m r + g.over r) x y g.rows p.inside p.unnaming (λ i h. rw (upd_other g.cap x m i h))
 
       none : g.over x ≡ 0

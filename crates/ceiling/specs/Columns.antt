@@ -1,6 +1,6 @@
 -- Rows of jobs as columns of numbers, and the sums over rows that the ceilings speak of.
 use Rattle.std.specs.Prelude.{ℕ, suc, ◌+◌, min, Bool, ◌&&◌, eqb, ltb}
-use Rattle.laws.specs.Bools.{if◌then◌else◌}
+use Rattle.laws.specs.Bools.{when◌then◌else◌}
 use Rattle.laws.specs.Range.{sum_to}
 
 pub record Columns : Type 0 where
@@ -34,11 +34,11 @@ pub record Columns : Type 0 where
 
 -- cap summed over the rows that name y
 abbrev pub sold : Columns → ℕ → ℕ
-sold g y = sum_to (λ r. if eqb (g.names r) (suc y) then g.cap r else 0) g.rows
+sold g y = sum_to (λ r. when eqb (g.names r) (suc y) then g.cap r else 0) g.rows
 
 -- the same with their overtakers
 abbrev pub bought : Columns → (ℕ → ℕ) → ℕ → ℕ
-bought g over y = sum_to (λ r. if eqb (g.names r) (suc y) then g.cap r + over r else 0) g.rows
+bought g over y = sum_to (λ r. when eqb (g.names r) (suc y) then g.cap r + over r else 0) g.rows
 
 -- the rows that name a row
 abbrev pub namers : Columns → ℕ
@@ -46,7 +46,7 @@ namers g = sum_to (λ r. min 1 (g.names r)) g.rows
 
 -- f summed over the first rows of transport t
 abbrev pub of_transport : Columns → ℕ → (ℕ → ℕ) → ℕ → ℕ
-of_transport g t f rows = sum_to (λ r. if eqb (g.transport r) t then f r else 0) rows
+of_transport g t f rows = sum_to (λ r. when eqb (g.transport r) t then f r else 0) rows
 
 -- row r is of j's transport, and its low lies above j
 abbrev pub above : Columns → ℕ → ℕ → Bool
@@ -54,4 +54,4 @@ above g j r = eqb (g.transport r) (g.transport j) && ltb j (g.low r)
 
 -- the picks from such rows
 abbrev pub beyond : Columns → ℕ → ℕ
-beyond g j = sum_to (λ r. if above g j r then g.picked r else 0) g.rows
+beyond g j = sum_to (λ r. when above g j r then g.picked r else 0) g.rows

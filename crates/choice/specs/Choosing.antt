@@ -1,7 +1,7 @@
 -- What a pick reads, as the rules define it: where something is found, the transport, the current job, how many it passed over, who preempts it
 -- with how many waiting, and the job, place and entry that the pick is from. All zeros where nothing is found.
 use Rattle.std.specs.Prelude.{ℕ, zero, suc, true, false}
-use Rattle.laws.specs.Bools.{if◌then◌else◌}
+use Rattle.laws.specs.Bools.{when◌then◌else◌}
 use Rattle.rules.specs.declared.State.{State}
 use Rattle.rules.specs.Picking.{finds, next_transport, current_job, passed_over, next_place, next_entry}
 use Rattle.rules.specs.Preemption.{preemptor_of}
@@ -39,4 +39,4 @@ abbrev pub chosen_on : State → ℕ → ℕ → ℕ → Choice
 chosen_on s now t y = chosen_with s t y (preemptor_of s now t y)
 
 unfoldable pub choice_of : State → ℕ → Choice
-choice_of s now = if finds s then chosen_on s now (next_transport s) (current_job s (next_transport s)) else nothing
+choice_of s now = when finds s then chosen_on s now (next_transport s) (current_job s (next_transport s)) else nothing

@@ -7,7 +7,7 @@ use native.Mathlib.Omega.{arith}
 use native.Mathlib.Decide.{dec_lt}
 use lib.ListN.{get_or}
 use Rattle.laws.specs.Range.{count_to}
-use Rattle.laws.specs.Bools.{if◌then◌else◌}
+use Rattle.laws.specs.Bools.{when◌then◌else◌}
 use Rattle.laws.proofs.Bools.{case_bool}
 use Rattle.rules.specs.declared.Jobs.{Jobs}
 use Rattle.rules.specs.State.{at}
@@ -16,7 +16,7 @@ use Rattle.eligibility.specs.Eligibility.{waits_in, left_in, Adds}
 pub left_is : (g : Jobs) (kind job : List ℕ) → Adds g kind job → (waits : List ℕ) → ((j : ℕ) → j < 32 → at waits j ≡ left_in g.present g.n g.picked g.dropped j)
     → ((j : ℕ) → 32 ≤ j → j < 256 → at waits j ≡ 0)
     → (j : ℕ) → j < 256 → at waits j ≡ count_to (waits_in kind job j) 512
-unfolding left_in if◌then◌else◌
+unfolding left_in when◌then◌else◌
 left_is g kind job adds waits own others j l =
     elim (dec_lt j 32) [
       | yes p ↦

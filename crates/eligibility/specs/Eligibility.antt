@@ -1,6 +1,6 @@
 -- What waits and where there is room, over columns. proofs/ ties each to the rule of `rules` whose columns these are.
 use Rattle.std.specs.Prelude.{ℕ, ◌+◌, ◌-◌, ◌*◌, ◌≤◌, ◌<◌, ◌≡◌, Bool, true, false, ◌&&◌, List, get_or, eqb, ltb}
-use Rattle.laws.specs.Bools.{if◌then◌else◌}
+use Rattle.laws.specs.Bools.{when◌then◌else◌}
 use Rattle.laws.specs.Range.{any_to, count_to, table_to}
 use Rattle.rules.specs.declared.Busy.{Busy}
 use Rattle.rules.specs.declared.Destination.{Destination}
@@ -22,7 +22,7 @@ waits_in kind job j e = eqb (at kind e) 1 && eqb (at job e) j
 
 -- what waits of job j, by its own counts; 0 where it is absent
 unfoldable pub left_in : List Bool → List ℕ → List ℕ → List ℕ → ℕ → ℕ
-left_in present n picked dropped j = if get_or present j false then at n j - (at picked j + at dropped j) else 0
+left_in present n picked dropped j = when get_or present j false then at n j - (at picked j + at dropped j) else 0
 
 -- .. which soundness ties to the entries
 pub record Adds (g : Jobs) (kind job : List ℕ) : Type 0 where

@@ -2,7 +2,7 @@
 #![tactic(auto)]
 
 ghost use Rattle.std.specs.Prelude.{◌≡◌, true, false, ◌&&◌, ℕ, ◌+◌, ◌-◌, ◌<◌, ◌≤◌, get_or, ltb};
-ghost use Rattle.laws.specs.Bools.{if◌then◌else◌};
+ghost use Rattle.laws.specs.Bools.{when◌then◌else◌};
 ghost use Rattle.laws.specs.Range.{any_to, first_to};
 ghost use Rattle.rules.specs.State.{at, is_live, window_of};
 ghost use Rattle.rules.specs.SoundFacts.{InRange};
@@ -51,7 +51,7 @@ pub fn open_table(ds: [Destination; 32], busy: Busy, setup: Setup) -> [bool; 256
 // What waits of a job that is present: its n less the picked and the dropped.
 fn left_of(present: bool, n: u16, picked: u16, dropped: u16) -> u16
     requires { present ≡ true → picked + dropped ≤ n }
-    ensures { result ≡ (if present then n - (picked + dropped) else 0) }
+    ensures { result ≡ (when present then n - (picked + dropped) else 0) }
 {
     if present { n - (picked + dropped) } else { 0 }
 }

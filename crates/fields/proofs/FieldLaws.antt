@@ -6,7 +6,7 @@ use mathlib.Core.List.{List}
 use native.Mathlib.Omega.{arith}
 use lib.Dec.{leb}
 use borrow.Author.Tests.{le-leb, lt-leb}
-use Rattle.laws.specs.Bools.{if◌then◌else◌}
+use Rattle.laws.specs.Bools.{when◌then◌else◌}
 use Rattle.laws.proofs.Bools.{and_left_false, and_right_false, and_both}
 use Rattle.rules.specs.Setup.{within}
 use Rattle.journal.specs.Numbers.{Number, number, fault, number_at}
@@ -36,7 +36,7 @@ module _ (range : ℕ → Bool) (bytes : List ℕ) (offset : ℕ) {f : Field} (e
 
 -- a number of any size is in its range
 any_size_lem : (n : Number) → ranged any_size n ≡ n
-unfolding ranged if◌then◌else◌
+unfolding ranged when◌then◌else◌
 any_size_lem (number x next) = refl
 any_size_lem (fault k) = refl
 
@@ -55,7 +55,7 @@ module _ (low high : ℕ) (bytes : List ℕ) (offset : ℕ) {f : Field} (e : f �
 
   module _ (z : f.fault ≡ 0) where
     outside : within low high f.value ≡ false → {g : Field} → g ≡ told_of (fault 14) → g ≡ told_of (ranged (within low high) (number_at bytes offset))
-    unfolding ranged if◌then◌else◌
+    unfolding ranged when◌then◌else◌
     outside o k = held (is_read any_size bytes offset e z) (rw o k)
 
     pub too_low : f.value < low → {g : Field} → g ≡ told_of (fault 14) → g ≡ told_of (ranged (within low high) (number_at bytes offset))
@@ -67,7 +67,7 @@ module _ (low high : ℕ) (bytes : List ℕ) (offset : ℕ) {f : Field} (e : f �
     too_high l = outside (and_right_false (leb low f.value) (lt-leb f.value high l))
 
     pub inside : low ≤ f.value → f.value ≤ high → f ≡ told_of (ranged (within low high) (number_at bytes offset))
-    unfolding ranged within if◌then◌else◌
+    unfolding ranged within when◌then◌else◌
     inside l h =
         let i : within low high f.value ≡ true = and_both (le-leb low f.value l) (le-leb f.value high h) in
         held (is_read any_size bytes offset e z) (rw i (e ∙ ap told_of (is_read any_size bytes offset e z)))

@@ -8,7 +8,7 @@ use native.Mathlib.Omega.{arith}
 use lib.ListN.{length}
 use lib.Dec.{eqb, ltb, leb}
 use borrow.Author.Tests.{le-leb, lt-leb, lt-ltb, le-ltb, ne_eqb}
-use Rattle.laws.specs.Bools.{if◌then◌else◌}
+use Rattle.laws.specs.Bools.{when◌then◌else◌}
 use Rattle.rules.specs.State.{at}
 use Rattle.journal.specs.Numbers.{Number, number, fault, above, groups_at, shortest, well_written, number_at}
 
@@ -29,18 +29,18 @@ onto_above sum place low (fault k) = refl
 
 module _ (bytes : List ℕ) (offset : ℕ) where
   groups_cut : (left : ℕ) → 0 < left → length bytes ≤ offset → groups_at left bytes offset ≡ fault 12
-  unfolding groups_at if◌then◌else◌
+  unfolding groups_at when◌then◌else◌
   groups_cut zero p h = absurd (omega (arith, p))
   groups_cut (suc left) p h = rw (le-leb _ _ h) refl
 
   module _ (h : offset < length bytes) {b : ℕ} (e : b ≡ at bytes offset) where
     groups_last : (left : ℕ) → 0 < left → b < 128 → groups_at left bytes offset ≡ number b (offset + 1)
-    unfolding groups_at if◌then◌else◌
+    unfolding groups_at when◌then◌else◌
     groups_last zero p l = absurd (omega (arith, p))
     groups_last (suc left) p l = rw (lt-leb _ _ h, ← e, lt-ltb _ _ l) refl
 
     groups_more : (left : ℕ) → 128 ≤ b → groups_at (suc left) bytes offset ≡ above (b - 128) (groups_at left bytes (offset + 1))
-    unfolding groups_at if◌then◌else◌
+    unfolding groups_at when◌then◌else◌
     groups_more left l = rw (lt-leb _ _ h, ← e, le-ltb _ _ l) refl
 
 -- What is so before each group but the first: the groups from `offset` up to `now` make `sum`, and `left` more may come.
@@ -74,7 +74,7 @@ module _ (bytes : List ℕ) (offset : ℕ) where
 
   module _ (h : offset < length bytes) {b : ℕ} (e : b ≡ at bytes offset) where
     pub first_last : b < 128 → number_at bytes offset ≡ number b (offset + 1)
-    unfolding well_written shortest if◌then◌else◌
+    unfolding well_written shortest when◌then◌else◌
     first_last l =
         let one : offset + 1 - offset ≡ 1 = omega arith in
         written (groups_last bytes offset h e 5 (omega arith) l) ∙ rw (one, lt-ltb b 4_294_967_296 (omega (arith, l))) refl
@@ -149,7 +149,7 @@ module _ (bytes : List ℕ) (offset : ℕ) where
 
         -- "shortest form only"
         pub last_zero : b ≡ 0 → number_at bytes offset ≡ fault 13
-        unfolding well_written shortest if◌then◌else◌
+        unfolding well_written shortest when◌then◌else◌
         last_zero z = last_one ∙ rw (many, lowest, lt-leb place (sum + place * b) (rw z (omega (arith, g.below)))) refl
 
         module _ (z : b ≡ 0 → ⊥) where
@@ -161,9 +161,9 @@ module _ (bytes : List ℕ) (offset : ℕ) where
 
           -- "below 2^32"
           pub last_large : 4_294_967_295 < sum + b * place → number_at bytes offset ≡ fault 13
-          unfolding well_written shortest if◌then◌else◌
+          unfolding well_written shortest when◌then◌else◌
           last_large m = last_one ∙ rw (many, lowest, same, long, le-ltb (sum + b * place) 4_294_967_296 (omega (arith, m))) refl
 
           pub last_is : sum + b * place ≤ 4_294_967_295 → number_at bytes offset ≡ number (sum + b * place) (now + 1)
-          unfolding well_written shortest if◌then◌else◌
+          unfolding well_written shortest when◌then◌else◌
           last_is m = last_one ∙ rw (many, lowest, same, long, lt-ltb (sum + b * place) 4_294_967_296 (omega (arith, m))) refl

@@ -9,7 +9,7 @@ use lib.ListN.{length, take, drop, length-drop}
 use lib.Seq.{length-take-le}
 use lib.Dec.{eqb, ltb, leb}
 use borrow.Author.Tests.{leb-true, leb-false, le-leb}
-use Rattle.laws.specs.Bools.{if◌then◌else◌}
+use Rattle.laws.specs.Bools.{when◌then◌else◌}
 use Rattle.laws.proofs.Bools.{if_cases}
 use Rattle.rules.specs.State.{at}
 use Rattle.journal.specs.Numbers.{Number, number, fault, above, groups_at, well_written, number_at}
@@ -145,5 +145,5 @@ record_ends bytes offset found = let ends = subst (Ends bytes (offset + 2)) foun
 
 -- at the end, and past it
 pub read_past : (bytes : List ℕ) (offset : ℕ) → length bytes ≤ offset → read_at bytes offset ≡ closed end
-unfolding read_at if◌then◌else◌
+unfolding read_at when◌then◌else◌
 read_past bytes offset h = rw (le-leb (length bytes) offset h) refl

@@ -4,7 +4,7 @@ use mathlib.Core.Path.{◌≡◌, refl}
 use mathlib.Core.Bool.{true, false}
 use mathlib.Core.List.{List, [], ◌∷◌, map}
 use lib.ListN.{replicate}
-use Rattle.laws.specs.Bools.{if◌then◌else◌}
+use Rattle.laws.specs.Bools.{when◌then◌else◌}
 use Rattle.laws.specs.Sequence.{every_in}
 use Rattle.rules.specs.Setup.{within}
 use Rattle.journal.specs.declared.Written.{Written}
@@ -17,14 +17,14 @@ pub groups_edge :
     map number_bytes (0 ∷ 127 ∷ 128 ∷ 16_383 ∷ 16_384 ∷ 2_097_151 ∷ 2_097_152 ∷ 268_435_455 ∷ 268_435_456 ∷ 4_294_967_295 ∷ [])
     ≡ (0 ∷ []) ∷ (127 ∷ []) ∷ (128 ∷ 1 ∷ []) ∷ (255 ∷ 127 ∷ []) ∷ (128 ∷ 128 ∷ 1 ∷ []) ∷ (255 ∷ 255 ∷ 127 ∷ []) ∷ (128 ∷ 128 ∷ 128 ∷ 1 ∷ [])
     ∷ (255 ∷ 255 ∷ 255 ∷ 127 ∷ []) ∷ (128 ∷ 128 ∷ 128 ∷ 128 ∷ 1 ∷ []) ∷ (255 ∷ 255 ∷ 255 ∷ 255 ∷ 15 ∷ []) ∷ []
-unfolding number_bytes groups_of if◌then◌else◌
+unfolding number_bytes groups_of when◌then◌else◌
 groups_edge = refl
 
 -- a record of each kind
 pub bytes_edge :
     map bytes_of (name 31 (200 ∷ 0 ∷ []) ∷ job 7 300 (9 ∷ 200 ∷ []) ∷ pick 9 ∷ report 9 8 130 1 ∷ [])
     ≡ (0 ∷ 31 ∷ 2 ∷ 200 ∷ 0 ∷ []) ∷ (1 ∷ 7 ∷ 172 ∷ 2 ∷ 2 ∷ 9 ∷ 200 ∷ 1 ∷ []) ∷ (2 ∷ 9 ∷ []) ∷ (3 ∷ 9 ∷ 8 ∷ 130 ∷ 1 ∷ 1 ∷ []) ∷ []
-unfolding bytes_of numbers_bytes number_bytes groups_of if◌then◌else◌
+unfolding bytes_of numbers_bytes number_bytes groups_of when◌then◌else◌
 bytes_edge = refl
 
 -- the greatest number that can be written, and the least that cannot
@@ -65,10 +65,10 @@ pub room_edge :
     map (writes (pick 300)) (8 ∷ 6 ∷ 5 ∷ 2 ∷ [])
     ≡ record { answer = Written.Used 6; buffer = 9 ∷ 9 ∷ 9 ∷ 2 ∷ 172 ∷ 2 ∷ 9 ∷ 9 ∷ [] } ∷ record { answer = Written.Used 6; buffer = 9 ∷ 9 ∷ 9 ∷ 2 ∷ 172 ∷ 2 ∷ [] }
     ∷ record { answer = Written.Refused 10; buffer = nines 5 } ∷ record { answer = Written.Refused 10; buffer = nines 2 } ∷ []
-unfolding writing_of fitted refusing put writable bytes_of numbers_bytes number_bytes groups_of if◌then◌else◌
+unfolding writing_of fitted refusing put writable bytes_of numbers_bytes number_bytes groups_of when◌then◌else◌
 room_edge = refl
 
 -- a field that is refused in a record that does not fit: 14 is tested first
 pub first_edge : map (writes (pick past)) (16 ∷ 3 ∷ []) ≡ record { answer = Written.Refused 14; buffer = nines 16 } ∷ record { answer = Written.Refused 14; buffer = nines 3 } ∷ []
-unfolding writing_of refusing writable bytes_of numbers_bytes number_bytes groups_of if◌then◌else◌
+unfolding writing_of refusing writable bytes_of numbers_bytes number_bytes groups_of when◌then◌else◌
 first_edge = refl

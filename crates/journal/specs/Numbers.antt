@@ -1,7 +1,7 @@
 -- Request A1: "numbers in variable-length groups of seven bits, lowest group first, top bit set on all but the last group, shortest form only, at
 -- most five groups and below 2^32".
 use Rattle.std.specs.Prelude.{ℕ, zero, suc, ◌+◌, ◌*◌, ◌-◌, ◌^◌, Bool, ◌&&◌, ◌||◌, List, length, eqb, ltb, leb}
-use Rattle.laws.specs.Bools.{if◌then◌else◌}
+use Rattle.laws.specs.Bools.{when◌then◌else◌}
 use Rattle.rules.specs.State.{at}
 
 -- what is read at an offset as a number
@@ -20,8 +20,8 @@ above low (fault k) = fault k
 unfoldable pub groups_at : ℕ → List ℕ → ℕ → Number
 groups_at zero bytes offset = fault 13
 groups_at (suc most) bytes offset =
-    if leb (length bytes) offset then fault 12
-    else if ltb (at bytes offset) 128 then number (at bytes offset) (offset + 1)
+    when leb (length bytes) offset then fault 12
+    else when ltb (at bytes offset) 128 then number (at bytes offset) (offset + 1)
     else above (at bytes offset - 128) (groups_at most bytes (offset + 1))
 
 -- "below 2^32"
@@ -33,7 +33,7 @@ unfoldable pub shortest : ℕ → ℕ → Bool
 shortest groups x = eqb groups 1 || leb (128 ^ (groups - 1)) x
 
 unfoldable pub well_written : ℕ → Number → Number
-well_written offset (number x next) = if shortest (next - offset) x && small x then number x next else fault 13
+well_written offset (number x next) = when shortest (next - offset) x && small x then number x next else fault 13
 well_written offset (fault k) = fault k
 
 -- "at most five groups and below 2^32"

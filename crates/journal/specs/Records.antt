@@ -1,7 +1,7 @@
 -- Request A1: "A record is a kind, then its fields". "Refused with the record's offset, first fault in byte order: 12 cut short, 13 a number not
 -- written as above, 14 a well-written kind, name number, length, count or outcome outside these."
 use Rattle.std.specs.Prelude.{ℕ, zero, suc, ◌+◌, Bool, true, List, [], ◌∷◌, ◌++◌, length, take, drop, eqb, leb}
-use Rattle.laws.specs.Bools.{if◌then◌else◌}
+use Rattle.laws.specs.Bools.{when◌then◌else◌}
 use Rattle.rules.specs.Setup.{within}
 use Rattle.journal.specs.Numbers.{Number, number, fault, number_at}
 
@@ -49,7 +49,7 @@ report_outcome = within 0 1
 
 -- 14: "well-written", and outside its range
 unfoldable pub ranged : (ℕ → Bool) → Number → Number
-ranged range (number x next) = if range x then number x next else fault 14
+ranged range (number x next) = when range x then number x next else fault 14
 ranged range (fault k) = fault k
 
 -- "first fault in byte order": a field is read and its range tested, and then comes what is behind it
@@ -65,7 +65,7 @@ module _ (bytes : List ℕ) (start : ℕ) where
   -- the bytes of a name
   unfoldable pub name_from : ℕ → ℕ → ℕ → Found
   name_from d size offset =
-      if leb (offset + size) (length bytes)
+      when leb (offset + size) (length bytes)
       then event (name d (take size (drop offset bytes))) (offset + size)
       else closed (refused 12 start)
 
@@ -108,14 +108,14 @@ module _ (bytes : List ℕ) (start : ℕ) where
 
   unfoldable pub fields_of : ℕ → ℕ → Found
   fields_of kind offset =
-      if eqb kind 0 then name_fields offset
-      else if eqb kind 1 then job_fields offset
-      else if eqb kind 2 then pick_fields offset
+      when eqb kind 0 then name_fields offset
+      else when eqb kind 1 then job_fields offset
+      else when eqb kind 2 then pick_fields offset
       else report_fields offset
 
 -- "Kinds are numbers too"; "at or past the end the answer is "end""
 unfoldable pub read_at : List ℕ → ℕ → Found
 read_at bytes offset =
-    if leb (length bytes) offset
+    when leb (length bytes) offset
     then closed end
     else field bytes offset offset (within 0 3) (fields_of bytes offset)

@@ -1,6 +1,6 @@
 -- Request A1: what a replay uses of a journal. "A replay may be given a number of records ..; it stops there and says how many it used".
 use Rattle.std.specs.Prelude.{ℕ, ◌≡◌, List, [], ◌∷◌, ◌++◌, length, take, replicate, leb}
-use Rattle.laws.specs.Bools.{if◌then◌else◌}
+use Rattle.laws.specs.Bools.{when◌then◌else◌}
 use Rattle.rules.specs.declared.State.{State}
 use Rattle.rules.specs.Sizes.{max_entries}
 use Rattle.rules.specs.Calls.{Call, outcome_of}
@@ -36,7 +36,7 @@ count_used j budget = length (events_used j budget)
 
 -- "a refused record .. ends it, uncounted": a replay that its budget ends comes to none
 unfoldable pub close_used : Journal → ℕ → Close
-close_used j budget = if leb budget (length j.events) then end else j.close
+close_used j budget = when leb budget (length j.events) then end else j.close
 
 -- What is claimed: "Names change no state".
 pub record NamesLeave : Type 0 where

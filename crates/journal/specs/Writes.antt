@@ -1,7 +1,7 @@
 -- Request A8: "each record goes into the lent buffer after those already there, all other bytes untouched, and a refusal writes nothing: 14 for a
 -- field that A1's reader would refuse or of 2^32 and more, tested first, then 10 for a record that doesn't fit".
 use Rattle.std.specs.Prelude.{ℕ, zero, suc, ◌+◌, ◌/◌, ◌%◌, Bool, ◌&&◌, List, [], ◌∷◌, ◌++◌, length, take, drop, ltb, leb}
-use Rattle.laws.specs.Bools.{if◌then◌else◌}
+use Rattle.laws.specs.Bools.{when◌then◌else◌}
 use Rattle.laws.specs.Sequence.{every_in}
 use Rattle.journal.specs.declared.Written.{Written}
 use Rattle.journal.specs.declared.Written.TheVariants
@@ -11,7 +11,7 @@ use Rattle.journal.specs.Records.{Event, name, job, pick, report, name_number, n
 -- A1: "groups of seven bits, lowest group first, top bit set on all but the last group, shortest form only", with at most so many groups
 unfoldable pub groups_of : ℕ → ℕ → List ℕ
 groups_of zero x = []
-groups_of (suc most) x = if ltb x 128 then x ∷ [] else (128 + x % 128) ∷ groups_of most (x / 128)
+groups_of (suc most) x = when ltb x 128 then x ∷ [] else (128 + x % 128) ∷ groups_of most (x / 128)
 
 -- "at most five groups": below 2^32 they are enough
 unfoldable pub number_bytes : ℕ → List ℕ
@@ -57,10 +57,10 @@ refusing k buffer = record { answer = Written.Refused k; buffer = buffer }
 -- "10 for a record that doesn't fit": also where more is used than the buffer has
 unfoldable pub fitted : List ℕ → List ℕ → ℕ → Writing
 fitted bytes buffer used =
-    if leb (used + length bytes) (length buffer)
+    when leb (used + length bytes) (length buffer)
     then record { answer = Written.Used (used + length bytes); buffer = put bytes buffer used }
     else refusing 10 buffer
 
 -- "14 .., tested first, then 10"
 unfoldable pub writing_of : Event → List ℕ → ℕ → Writing
-writing_of e buffer used = if writable e then fitted (bytes_of e) buffer used else refusing 14 buffer
+writing_of e buffer used = when writable e then fitted (bytes_of e) buffer used else refusing 14 buffer

@@ -6,7 +6,7 @@ use mathlib.Core.Logic.{◌⊎◌, inl, inr}
 use native.Mathlib.Omega.{arith}
 use lib.Dec.{eqb}
 use borrow.Author.Tests.{eqb-true, eq-eqb}
-use Rattle.laws.specs.Bools.{if◌then◌else◌, one}
+use Rattle.laws.specs.Bools.{when◌then◌else◌, one}
 
 -- A test is true or false.
 
@@ -91,40 +91,40 @@ not_and false b = refl
 -- if
 
 module _ {ℓ} {A : Type ℓ} where
-  pub if_true : {b : Bool} (x y : A) → b ≡ true → (if b then x else y) ≡ x
-  unfolding if◌then◌else◌
+  pub if_true : {b : Bool} (x y : A) → b ≡ true → (when b then x else y) ≡ x
+  unfolding when◌then◌else◌
   if_true x y e = rw e
 
-  pub if_false : {b : Bool} (x y : A) → b ≡ false → (if b then x else y) ≡ y
-  unfolding if◌then◌else◌
+  pub if_false : {b : Bool} (x y : A) → b ≡ false → (when b then x else y) ≡ y
+  unfolding when◌then◌else◌
   if_false x y e = rw e
 
-  pub if_same : (b : Bool) (x : A) → (if b then x else x) ≡ x
-  unfolding if◌then◌else◌
+  pub if_same : (b : Bool) (x : A) → (when b then x else x) ≡ x
+  unfolding when◌then◌else◌
   if_same true x = refl
   if_same false x = refl
 
   -- what holds in either case holds of the choice
-  pub if_cases {κ} : (P : A → Type κ) (b : Bool) {x y : A} → (b ≡ true → P x) → (b ≡ false → P y) → P (if b then x else y)
-  unfolding if◌then◌else◌
+  pub if_cases {κ} : (P : A → Type κ) (b : Bool) {x y : A} → (b ≡ true → P x) → (b ≡ false → P y) → P (when b then x else y)
+  unfolding when◌then◌else◌
   if_cases P true t f = t refl
   if_cases P false t f = f refl
 
-pub if_le : (b c : Bool) (x y : ℕ) → (b ≡ true → (c ≡ true) × (x ≤ y)) → (if b then x else 0) ≤ (if c then y else 0)
-unfolding if◌then◌else◌
+pub if_le : (b c : Bool) (x y : ℕ) → (b ≡ true → (c ≡ true) × (x ≤ y)) → (when b then x else 0) ≤ (when c then y else 0)
+unfolding when◌then◌else◌
 if_le true c x y h = rw (h refl).0 (h refl).1
 if_le false c x y h = omega arith
 
 -- two parts under two tests that agree wherever the second part counts
-pub if_add : (b c : Bool) (x y : ℕ) → (1 ≤ y → b ≡ c) → (if b then x + y else 0) ≡ (if b then x else 0) + (if c then y else 0)
-unfolding if◌then◌else◌
-if_add b c x y h = both b ∙ ap (λ n. (if b then x else 0) + n) (same y h)
+pub if_add : (b c : Bool) (x y : ℕ) → (1 ≤ y → b ≡ c) → (when b then x + y else 0) ≡ (when b then x else 0) + (when c then y else 0)
+unfolding when◌then◌else◌
+if_add b c x y h = both b ∙ ap (λ n. (when b then x else 0) + n) (same y h)
   where
-    both : (b : Bool) → (if b then x + y else 0) ≡ (if b then x else 0) + (if b then y else 0)
+    both : (b : Bool) → (when b then x + y else 0) ≡ (when b then x else 0) + (when b then y else 0)
     both true = refl
     both false = refl
 
-    same : (y : ℕ) → (1 ≤ y → b ≡ c) → (if b then y else 0) ≡ (if c then y else 0)
+    same : (y : ℕ) → (1 ≤ y → b ≡ c) → (when b then y else 0) ≡ (when c then y else 0)
     same zero h = if_same b 0 ∙ sym (if_same c 0)
     same (suc y) h = rw (h (omega arith))
 

@@ -3,7 +3,7 @@ use Prim.Native.Nat.{ℕ, suc, ◌<◌}
 use mathlib.Core.Bool.{Bool, true}
 use mathlib.Core.Path.{◌≡◌, sym, ◌∙◌}
 use native.Mathlib.Omega.{arith}
-use Rattle.laws.specs.Bools.{if◌then◌else◌}
+use Rattle.laws.specs.Bools.{when◌then◌else◌}
 use Rattle.laws.specs.Chain.{ends_in}
 use Rattle.laws.proofs.Bools.{case_bool, if_true, if_false}
 use Rattle.laws.proofs.Chain.{ends_zero, ends_same}
@@ -21,7 +21,7 @@ ends_among next ok n closed below ends z h =
     suc_same e = omega arith
 
     among : ℕ → ℕ
-    among z = if ok z then next z else 0
+    among z = when ok z then next z else 0
 
     inside : (z : ℕ) → ok z ≡ true → among z ≡ next z
     inside z k = if_true (next z) 0 k

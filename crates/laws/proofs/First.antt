@@ -12,7 +12,7 @@ use lib.Dec.{ltb}
 use lib.ListN.{length, get_or, set, drop, length-append, get_or-append}
 use lib.Seq.{get_or_at}
 use borrow.Author.Tests.{ltb-true, ltb-false, lt-ltb}
-use Rattle.laws.specs.Bools.{if◌then◌else◌, one}
+use Rattle.laws.specs.Bools.{when◌then◌else◌, one}
 use Rattle.laws.specs.Range.{any_to, count_to, first_to, greatest_to, chosen_to}
 use Rattle.laws.proofs.Bools.{true_not_false, case_bool, bool_same, if_cases, one_true}
 use Rattle.laws.proofs.All.{below_suc, any_of, any_witness}
@@ -102,17 +102,17 @@ module _ (p : ℕ → Bool) where
       (λ f. ⊎_elim (λ q. true_not_false t (rw q f)) (λ m. greatest_most n i (omega arith) t) (eq-or-lt_of_le l))
 
   pub length_chosen : (n : ℕ) → length (chosen_to p n) ≡ count_to p n
-  unfolding chosen_to count_to if◌then◌else◌ one
+  unfolding chosen_to count_to when◌then◌else◌ one
   length_chosen zero = refl
   length_chosen (suc n) =
       case_bool (p n) (λ t. rw (t, length-append, length_chosen n)) (λ f. rw (f, add-zero, length_chosen n))
 
   pub chosen_true : (n : ℕ) → p n ≡ true → chosen_to p (suc n) ≡ chosen_to p n ++ (n ∷ [])
-  unfolding chosen_to if◌then◌else◌
+  unfolding chosen_to when◌then◌else◌
   chosen_true n t = rw t
 
   pub chosen_false : (n : ℕ) → p n ≡ false → chosen_to p (suc n) ≡ chosen_to p n
-  unfolding chosen_to if◌then◌else◌
+  unfolding chosen_to when◌then◌else◌
   chosen_false n f = rw f
 
   pub length_chosen_le : (n : ℕ) → length (chosen_to p n) ≤ n
@@ -125,7 +125,7 @@ module _ (p : ℕ → Bool) where
   chosen_miss i f = rw add-one (chosen_false i f)
 
 pub chosen_none : (n : ℕ) → chosen_to (λ i. false) n ≡ []
-unfolding chosen_to if◌then◌else◌
+unfolding chosen_to when◌then◌else◌
 chosen_none zero = refl
 chosen_none (suc n) = chosen_none n
 

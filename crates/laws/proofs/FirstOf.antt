@@ -9,7 +9,7 @@ use native.Mathlib.Omega.{arith}
 use lib.Dec.{eqb}
 use lib.ListN.{length, get_or, take, drop}
 use borrow.Author.Tests.{eqb-true, ne_eqb, not-true}
-use Rattle.laws.specs.Bools.{if◌then◌else◌}
+use Rattle.laws.specs.Bools.{when◌then◌else◌}
 use Rattle.laws.specs.Sequence.{keep, holds, first_of, up_to, every_in}
 use Rattle.laws.proofs.Bools.{true_not_false, case_bool, not_is_true, and_both, if_true, if_false, eqb_self}
 use Rattle.laws.proofs.Sequence.{holds_head, holds_tail, lacks_head, lacks_tail, holds_append_left, every_at}
@@ -53,7 +53,7 @@ module _ (p : ℕ → Bool) where
 
   -- all that stands before what is found fails
   pub up_to_first : (l : List ℕ) (other : ℕ) → every_in (λ x. not (p x)) (up_to (first_of p l other) l) ≡ true
-  unfolding first_of up_to every_in if◌then◌else◌
+  unfolding first_of up_to every_in when◌then◌else◌
   up_to_first [] other = refl
   up_to_first (x ∷ l) other =
       case_bool (p x)
@@ -73,13 +73,13 @@ first_of_same p q (x ∷ l) other h = rw (h x (holds_head x l), first_of_same p 
 module _ (y : ℕ) where
   -- the list is what stands before the first y, and the rest
   pub up_to_rest : (l : List ℕ) → up_to y l ++ drop (length (up_to y l)) l ≡ l
-  unfolding up_to if◌then◌else◌
+  unfolding up_to when◌then◌else◌
   up_to_rest [] = refl
   up_to_rest (x ∷ l) = case_bool (eqb x y) (λ t. rw t) (λ f. rw (f, up_to_rest l))
 
   -- what is kept before y, where y is kept
   pub up_to_keep : (p : ℕ → Bool) (l : List ℕ) → p y ≡ true → up_to y (keep p l) ≡ keep p (up_to y l)
-  unfolding up_to keep if◌then◌else◌
+  unfolding up_to keep when◌then◌else◌
   up_to_keep p [] h = refl
   up_to_keep p (x ∷ l) h =
       case_bool (eqb x y)
@@ -88,7 +88,7 @@ module _ (y : ℕ) where
 
   -- what stands before y, where y does not stand in a
   pub up_to_seam : (a l : List ℕ) → holds y a ≡ false → up_to y (a ++ (y ∷ l)) ≡ a
-  unfolding up_to if◌then◌else◌
+  unfolding up_to when◌then◌else◌
   up_to_seam [] l h = rw (eqb_self y)
   up_to_seam (x ∷ a) l h = rw (ne_eqb x y (λ e. lacks_head y x a h (sym e)), up_to_seam a l (lacks_tail y x a h))
 

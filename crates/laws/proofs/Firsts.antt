@@ -8,7 +8,7 @@ use native.Mathlib.Decide.{ℕ_discrete}
 use lib.Dec.{eqb}
 use lib.ListN.{length, get_or}
 use borrow.Author.Tests.{eqb-true, ne_eqb}
-use Rattle.laws.specs.Bools.{if◌then◌else◌}
+use Rattle.laws.specs.Bools.{when◌then◌else◌}
 use Rattle.laws.specs.Range.{any_to}
 use Rattle.laws.specs.Sequence.{holds, times_in, firsts_to}
 use Rattle.laws.proofs.Bools.{case_bool, if_true, if_false, or_right, one_le, one_false}
@@ -18,11 +18,11 @@ use Rattle.laws.proofs.Once.{distinct_length}
 
 module _ (l : List ℕ) where
   pub firsts_seen : (n : ℕ) → holds (get_or l n 0) (firsts_to l n) ≡ true → firsts_to l (suc n) ≡ firsts_to l n
-  unfolding firsts_to if◌then◌else◌
+  unfolding firsts_to when◌then◌else◌
   firsts_seen n t = rw t
 
   pub firsts_new : (n : ℕ) → holds (get_or l n 0) (firsts_to l n) ≡ false → firsts_to l (suc n) ≡ firsts_to l n ++ (get_or l n 0 ∷ [])
-  unfolding firsts_to if◌then◌else◌
+  unfolding firsts_to when◌then◌else◌
   firsts_new n f = rw f
 
   pub firsts_once : (n x : ℕ) → times_in x (firsts_to l n) ≤ 1

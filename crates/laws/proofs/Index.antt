@@ -8,7 +8,7 @@ use native.Mathlib.Omega.{arith}
 use lib.Dec.{eqb}
 use lib.ListN.{length, get_or, take, drop}
 use lib.Seq.{take-suc, split_at, get_or-take, length-take-le}
-use Rattle.laws.specs.Bools.{if◌then◌else◌, one}
+use Rattle.laws.specs.Bools.{when◌then◌else◌, one}
 use Rattle.laws.specs.Range.{any_to, count_to, table_to}
 use Rattle.laws.specs.Sequence.{keep, holds, times_in, count_in, first_of}
 use Rattle.laws.proofs.Bools.{case_bool, not_is_true, if_true}
@@ -25,8 +25,8 @@ module _ (p : ℕ → Bool) (l : List ℕ) (d : ℕ) where
       rw (take-suc l n d) (count_in_append p (take n l) (e ∷ []) ∙ ap₂ ◌+◌ (count_in_take n (le_of_suc-le h)) (add-zero (one (p e))))
 
   -- keep, one place further
-  pub keep_take : (i : ℕ) → i < length l → keep p (take (suc i) l) ≡ (if p (get_or l i d) then keep p (take i l) ++ (get_or l i d ∷ []) else keep p (take i l))
-  unfolding keep if◌then◌else◌
+  pub keep_take : (i : ℕ) → i < length l → keep p (take (suc i) l) ≡ (when p (get_or l i d) then keep p (take i l) ++ (get_or l i d ∷ []) else keep p (take i l))
+  unfolding keep when◌then◌else◌
   keep_take i h =
       let e = get_or l i d in
       rw (take-suc l i d) (keep_append p (take i l) (e ∷ []) ∙ case_bool (p e) (λ t. rw t) (λ f. rw (f, append-nil)))

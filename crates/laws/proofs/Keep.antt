@@ -8,27 +8,27 @@ use native.Mathlib.Omega.{arith}
 use lib.Dec.{eqb, ltb}
 use lib.ListN.{length}
 use borrow.Author.Tests.{ne_eqb}
-use Rattle.laws.specs.Bools.{if◌then◌else◌, one}
+use Rattle.laws.specs.Bools.{when◌then◌else◌, one}
 use Rattle.laws.specs.Sequence.{keep, holds, times_in, every_in, count_in}
 use Rattle.laws.proofs.Bools.{true_not_false, case_bool, not_is_true, not_is_false, and_both, and_left, and_right, one_false, eqb_self, eqb_sym}
 use Rattle.laws.proofs.Sequence.{holds_head, holds_tail, holds_times, lacks_of_times, every_at, every_from, count_in_le}
 
 module _ (p : ℕ → Bool) where
   pub keep_true : (x : ℕ) (l : List ℕ) → p x ≡ true → keep p (x ∷ l) ≡ x ∷ keep p l
-  unfolding keep if◌then◌else◌
+  unfolding keep when◌then◌else◌
   keep_true x l t = rw t
 
   pub keep_false : (x : ℕ) (l : List ℕ) → p x ≡ false → keep p (x ∷ l) ≡ keep p l
-  unfolding keep if◌then◌else◌
+  unfolding keep when◌then◌else◌
   keep_false x l f = rw f
 
   pub keep_append : (l m : List ℕ) → keep p (l ++ m) ≡ keep p l ++ keep p m
-  unfolding keep if◌then◌else◌
+  unfolding keep when◌then◌else◌
   keep_append [] m = refl
   keep_append (x ∷ l) m = case_bool (p x) (λ t. rw (t, keep_append l m)) (λ f. rw (f, keep_append l m))
 
   pub length_keep : (l : List ℕ) → length (keep p l) ≡ count_in p l
-  unfolding keep count_in if◌then◌else◌ one
+  unfolding keep count_in when◌then◌else◌ one
   length_keep [] = refl
   length_keep (x ∷ l) = case_bool (p x) (λ t. rw t (omega (arith, length_keep l))) (λ f. rw f (omega (arith, length_keep l)))
 
@@ -36,7 +36,7 @@ module _ (p : ℕ → Bool) where
   length_keep_le l = omega (arith, length_keep l, count_in_le p l)
 
   pub times_keep_true : (x : ℕ) (l : List ℕ) → p x ≡ true → times_in x (keep p l) ≡ times_in x l
-  unfolding keep times_in if◌then◌else◌
+  unfolding keep times_in when◌then◌else◌
   times_keep_true x [] h = refl
   times_keep_true x (y ∷ l) h =
       case_bool (p y)
@@ -44,7 +44,7 @@ module _ (p : ℕ → Bool) where
       (λ f. rw (f, times_keep_true x l h) (omega (arith, one_false (ne_eqb x y (λ e. true_not_false h (rw e f))))))
 
   pub times_keep_false : (x : ℕ) (l : List ℕ) → p x ≡ false → times_in x (keep p l) ≡ 0
-  unfolding keep times_in if◌then◌else◌
+  unfolding keep times_in when◌then◌else◌
   times_keep_false x [] h = refl
   times_keep_false x (y ∷ l) h =
       case_bool (p y)
@@ -76,7 +76,7 @@ module _ (p : ℕ → Bool) where
   every_keep q l h = every_from q (keep p l) λ x k. every_at q l h x (keep_in x l k)
 
   pub keep_all : (l : List ℕ) → every_in p l ≡ true → keep p l ≡ l
-  unfolding keep every_in if◌then◌else◌
+  unfolding keep every_in when◌then◌else◌
   keep_all [] h = refl
   keep_all (x ∷ l) h = rw (and_left (p x) (every_in p l) h, keep_all l (and_right (p x) (every_in p l) h))
 
@@ -105,6 +105,6 @@ module _ (x : ℕ) where
   remove_holds z l ne h = holds_keep_in (other x) z l h (not_is_true (ne_eqb z x ne))
 
   pub length_remove : (l : List ℕ) → length (keep (λ z. not (eqb z x)) l) + times_in x l ≡ length l
-  unfolding keep times_in if◌then◌else◌ one
+  unfolding keep times_in when◌then◌else◌ one
   length_remove [] = refl
   length_remove (z ∷ l) = rw (eqb_sym x z) (case_bool (eqb z x) (λ t. rw t (omega (arith, length_remove l))) (λ f. rw f (omega (arith, length_remove l))))

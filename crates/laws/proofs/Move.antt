@@ -9,7 +9,7 @@ use native.Mathlib.Decide.{ℕ_discrete}
 use lib.Dec.{eqb}
 use lib.ListN.{length, drop, length-append}
 use borrow.Author.Tests.{eqb-false, eq-eqb, ne_eqb}
-use Rattle.laws.specs.Bools.{if◌then◌else◌, one}
+use Rattle.laws.specs.Bools.{when◌then◌else◌, one}
 use Rattle.laws.specs.Sequence.{keep, holds, times_in, every_in, up_to, insert_before, move_before}
 use Rattle.laws.proofs.Bools.{true_not_false, false_of, case_bool, bool_same, not_is_true, or_left, or_right, or_cases, one_true, one_false, eqb_self, if_true, if_false}
 use Rattle.laws.proofs.Sequence.{holds_rest, holds_of_times, holds_same_times, times_append, times_cons, times_positive, lacks_head, lacks_tail, every_from, every_same_times}
@@ -32,7 +32,7 @@ module _ (x y : ℕ) where
 
   -- x stands behind what is before y
   pub insert_split : (l : List ℕ) → holds y l ≡ true → insert_before x y l ≡ up_to y l ++ (x ∷ drop (length (up_to y l)) l)
-  unfolding insert_before up_to holds if◌then◌else◌
+  unfolding insert_before up_to holds when◌then◌else◌
   insert_split [] h = true_not_false h refl
   insert_split (z ∷ l) h =
       case_bool (eqb z y) (λ t. rw t) (λ f. rw (f, insert_split l (holds_rest y z l (λ e. eqb-false z y f (sym e)) h)))

@@ -7,7 +7,7 @@ use native.Mathlib.Nat.{not-suc-le-zero, le_of_suc-le-suc, le_step, le_refl, lt_
 use native.Mathlib.Decide.{ℕ_discrete}
 use lib.Dec.{eqb}
 use borrow.Author.Tests.{eqb-true, eq-eqb, ne_eqb}
-use Rattle.laws.specs.Bools.{if◌then◌else◌}
+use Rattle.laws.specs.Bools.{when◌then◌else◌}
 use Rattle.laws.specs.Chain.{along_chain, ends_in, first_along}
 use Rattle.laws.specs.Onto.{on_chain, near}
 use Rattle.laws.proofs.Bools.{true_not_false, false_of, case_bool, or_cases, and_both, and_left_false, and_right_false}
@@ -55,18 +55,18 @@ module _ {ℓ} {A : Type ℓ} (next depth : ℕ → ℕ) (step : ℕ → A → A
     (keeps : (x : ℕ) (a : A) → ok x → good a → good (step x a)) (here : (x : ℕ) (a : A) → ok x → good a → get (step x a) x ≡ h (get a x))
     (there : (x r : ℕ) (a : A) → ok x → good a → r ≢ x → get (step x a) r ≡ get a r) where
   pub along_at : (n k : ℕ) (a : A) → ((x : ℕ) → k ≡ suc x → ok x) → good a → (r : ℕ)
-      → get (along_chain next step n k a) r ≡ (if on_chain next n k r then h (get a r) else get a r)
-  unfolding along_chain on_chain if◌then◌else◌
+      → get (along_chain next step n k a) r ≡ (when on_chain next n k r then h (get a r) else get a r)
+  unfolding along_chain on_chain when◌then◌else◌
   along_at zero k a o g r = refl
   along_at (suc n) zero a o g r = refl
   along_at (suc n) (suc x) a o g r = along_at n (next x) (step x a) (λ y. closed x y (o x refl)) (keeps x a (o x refl) g) r ∙ last
     where
-      own : (if on_chain next n (next x) x then h (get (step x a) x) else get (step x a) x)
-          ≡ (if eqb x x || on_chain next n (next x) x then h (get a x) else get a x)
+      own : (when on_chain next n (next x) x then h (get (step x a) x) else get (step x a) x)
+          ≡ (when eqb x x || on_chain next n (next x) x then h (get a x) else get a x)
       own = rw (on_not_back next depth ok closed falls n x (o x refl), eq-eqb x x refl) (here x a (o x refl) g)
 
-      last : (if on_chain next n (next x) r then h (get (step x a) r) else get (step x a) r)
-          ≡ (if eqb x r || on_chain next n (next x) r then h (get a r) else get a r)
+      last : (when on_chain next n (next x) r then h (get (step x a) r) else get (step x a) r)
+          ≡ (when eqb x r || on_chain next n (next x) r then h (get a r) else get a r)
       last = elim (ℕ_discrete r x) [ yes e ↦ rw e own | no ne ↦ rw (there x r a (o x refl) g ne, ne_eqb x r (λ q. ne (sym q))) refl ]
 
 -- The chain of those that pass the test.

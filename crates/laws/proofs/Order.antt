@@ -8,7 +8,7 @@ use native.Mathlib.Nat.{not-suc-le-zero, le_of_suc-le-suc}
 use lib.Dec.{eqb}
 use lib.ListN.{length, get_or}
 use borrow.Author.Tests.{eqb-true}
-use Rattle.laws.specs.Bools.{if◌then◌else◌}
+use Rattle.laws.specs.Bools.{when◌then◌else◌}
 use Rattle.laws.specs.Sequence.{keep, holds, times_in, up_to}
 use Rattle.laws.specs.Order.{Before}
 use Rattle.laws.proofs.Bools.{true_not_false, case_bool}
@@ -69,7 +69,7 @@ module _ (x y : ℕ) where
       (holds_cases x z l hx)
 
   pub before_up_to : (l : List ℕ) → times_in y l ≤ 1 → Before x y l → holds x (up_to y l) ≡ true
-  unfolding Before up_to if◌then◌else◌
+  unfolding Before up_to when◌then◌else◌
   before_up_to [] o b = absurd b
   before_up_to (z ∷ l) o b =
       let k : holds y l ≡ true = ⊎_elim (λ r. r.1) (before_right l) b in

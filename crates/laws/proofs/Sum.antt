@@ -9,7 +9,7 @@ use native.Mathlib.Numerals.{add-one}
 use native.Mathlib.Omega.{arith}
 use lib.Dec.{ltb}
 use borrow.Author.Tests.{le-ltb}
-use Rattle.laws.specs.Bools.{if◌then◌else◌, one}
+use Rattle.laws.specs.Bools.{when◌then◌else◌, one}
 use Rattle.laws.specs.Range.{sum_to}
 use Rattle.laws.specs.Update.{upd}
 use Rattle.laws.proofs.Bools.{if_false, if_cases, if_le}
@@ -96,20 +96,20 @@ pub sum_alone : (f : ℕ → ℕ) (j n : ℕ) → j < n → ((i : ℕ) → i < n
 sum_alone f j n l h = omega (arith, sum_change (λ i. 0) f j n l h, sum_zero (λ i. 0) n (λ i k. refl))
 
 -- parts that count only where a test holds
-pub sum_if_le : (p q : ℕ → Bool) (f g : ℕ → ℕ) (n : ℕ) → ((i : ℕ) → i < n → p i ≡ true → (q i ≡ true) × (f i ≤ g i)) → sum_to (λ i. if p i then f i else 0) n ≤ sum_to (λ i. if q i then g i else 0) n
+pub sum_if_le : (p q : ℕ → Bool) (f g : ℕ → ℕ) (n : ℕ) → ((i : ℕ) → i < n → p i ≡ true → (q i ≡ true) × (f i ≤ g i)) → sum_to (λ i. when p i then f i else 0) n ≤ sum_to (λ i. when q i then g i else 0) n
 sum_if_le p q f g n h = sum_le _ _ n (λ i l. if_le (p i) (q i) (f i) (g i) (h i l))
 
-pub sum_if_zero : (p : ℕ → Bool) (f : ℕ → ℕ) (n : ℕ) → ((i : ℕ) → i < n → p i ≡ true → f i ≡ 0) → sum_to (λ i. if p i then f i else 0) n ≡ 0
+pub sum_if_zero : (p : ℕ → Bool) (f : ℕ → ℕ) (n : ℕ) → ((i : ℕ) → i < n → p i ≡ true → f i ≡ 0) → sum_to (λ i. when p i then f i else 0) n ≡ 0
 sum_if_zero p f n h = sum_zero _ n (λ i l. if_cases (λ v. v ≡ 0) (p i) {x = f i} {y = 0} (h i l) (λ e. refl))
 
 -- one test for all parts
-pub sum_if_all : (b : Bool) (f : ℕ → ℕ) (n : ℕ) → sum_to (λ i. if b then f i else 0) n ≡ (if b then sum_to f n else 0)
-unfolding if◌then◌else◌
+pub sum_if_all : (b : Bool) (f : ℕ → ℕ) (n : ℕ) → sum_to (λ i. when b then f i else 0) n ≡ (when b then sum_to f n else 0)
+unfolding when◌then◌else◌
 sum_if_all true f n = refl
 sum_if_all false f n = sum_zero _ n (λ i l. refl)
 
 -- the parts below m
-pub sum_below : (f : ℕ → ℕ) (m n : ℕ) → sum_to (λ i. if ltb i m then f i else 0) n ≤ sum_to f m
+pub sum_below : (f : ℕ → ℕ) (m n : ℕ) → sum_to (λ i. when ltb i m then f i else 0) n ≤ sum_to f m
 unfolding sum_to
 sum_below f m zero = omega arith
 sum_below f m (suc n) = elim (dec_lt n m) [
@@ -120,13 +120,13 @@ sum_below f m (suc n) = elim (dec_lt n m) [
 ]
 
 -- one part grows by 1, and counts where its test holds
-pub sum_if_suc : (p : ℕ → Bool) (f : ℕ → ℕ) (j n : ℕ) → j < n → sum_to (λ i. if p i then upd f j (suc (f j)) i else 0) n ≡ sum_to (λ i. if p i then f i else 0) n + one (p j)
-unfolding if◌then◌else◌ one
+pub sum_if_suc : (p : ℕ → Bool) (f : ℕ → ℕ) (j n : ℕ) → j < n → sum_to (λ i. when p i then upd f j (suc (f j)) i else 0) n ≡ sum_to (λ i. when p i then f i else 0) n + one (p j)
+unfolding when◌then◌else◌ one
 sum_if_suc p f j n l =
-    let c = sum_change (λ i. if p i then f i else 0) (λ i. if p i then upd f j (suc (f j)) i else 0) j n l (λ i k o. rw (upd_other f j (suc (f j)) i o)) in
+    let c = sum_change (λ i. when p i then f i else 0) (λ i. when p i then upd f j (suc (f j)) i else 0) j n l (λ i k o. rw (upd_other f j (suc (f j)) i o)) in
     omega (arith, rw upd_same at c, step (p j))
   where
-    step : (b : Bool) → (if b then suc (f j) else 0) ≡ (if b then f j else 0) + one b
+    step : (b : Bool) → (when b then suc (f j) else 0) ≡ (when b then f j else 0) + one b
     step true = omega arith
     step false = omega arith
 

@@ -10,7 +10,7 @@ use lib.Dec.{eqb}
 use lib.ListN.{length, get_or, set, length-append, length-set, get_or-append}
 use lib.Seq.{get_or_at, get_or-set_same, get_or-set_other, ext_get_or}
 use borrow.Author.Tests.{eq-eqb, ne_eqb}
-use Rattle.laws.specs.Bools.{if◌then◌else◌}
+use Rattle.laws.specs.Bools.{when◌then◌else◌}
 use Rattle.laws.specs.Range.{table_to, fold_to}
 use Rattle.laws.proofs.Bools.{if_true, if_false}
 use Rattle.laws.proofs.All.{below_suc}
@@ -45,10 +45,10 @@ module _ {ℓ} {A : Type ℓ} where
   pub table_is : (f : ℕ → A) (d : A) (l : List A) (n : ℕ) → length l ≡ n → ((i : ℕ) → i < n → get_or l i d ≡ f i) → table_to f n ≡ l
   table_is f d l n e h = table_same f (λ i. get_or l i d) n (λ i k. sym (h i k)) ∙ rw (← e) (table_self d l)
 
-  pub table_set : (f : ℕ → A) (n i : ℕ) (v : A) → set (table_to f n) i v ≡ table_to (λ j. if eqb j i then v else f j) n
-  table_set f n i v = sym (table_is (λ j. if eqb j i then v else f j) v (set (table_to f n) i v) n (length-set (table_to f n) i v ∙ length_table f n) at_place)
+  pub table_set : (f : ℕ → A) (n i : ℕ) (v : A) → set (table_to f n) i v ≡ table_to (λ j. when eqb j i then v else f j) n
+  table_set f n i v = sym (table_is (λ j. when eqb j i then v else f j) v (set (table_to f n) i v) n (length-set (table_to f n) i v ∙ length_table f n) at_place)
     where
-      at_place : (j : ℕ) → j < n → get_or (set (table_to f n) i v) j v ≡ (if eqb j i then v else f j)
+      at_place : (j : ℕ) → j < n → get_or (set (table_to f n) i v) j v ≡ (when eqb j i then v else f j)
       at_place j l = elim (ℕ_discrete j i) [
         | yes e ↦ rw e (get_or-set_same (table_to f n) i v v (rw (length_table, ← e) l) ∙ sym (if_true v (f i) (eq-eqb i i refl)))
         | no ne ↦ get_or-set_other (table_to f n) i j v v ne ∙ get_or_table f n j v l ∙ sym (if_false v (f j) (ne_eqb j i ne))
@@ -57,7 +57,7 @@ module _ {ℓ} {A : Type ℓ} where
   -- a table with one place written is the table of a function that differs there only
   pub table_write : (f g : ℕ → A) (n i : ℕ) (v : A) → v ≡ g i → ((j : ℕ) → j < n → j ≢ i → f j ≡ g j) → set (table_to f n) i v ≡ table_to g n
   table_write f g n i v e h =
-      table_set f n i v ∙ table_same (λ j. if eqb j i then v else f j) g n λ j l.
+      table_set f n i v ∙ table_same (λ j. when eqb j i then v else f j) g n λ j l.
       elim (ℕ_discrete j i) [
         | yes p ↦ if_true v (f j) (eq-eqb j i p) ∙ e ∙ ap g (sym p)
         | no p ↦ if_false v (f j) (ne_eqb j i p) ∙ h j l p

@@ -6,7 +6,7 @@ use native.Mathlib.Decide.{ℕ_discrete}
 use native.Mathlib.Omega.{arith}
 use lib.Dec.{eqb}
 use borrow.Author.Tests.{eq-eqb, ne_eqb}
-use Rattle.laws.specs.Bools.{if◌then◌else◌, one}
+use Rattle.laws.specs.Bools.{when◌then◌else◌, one}
 use Rattle.laws.specs.Update.{upd}
 use Rattle.laws.proofs.Bools.{if_true, if_false}
 
@@ -46,6 +46,6 @@ unfolding one
 upd_suc f j = upd_all (λ i v. v ≡ f i + one (eqb j i)) f j (suc (f j)) (rw (eq-eqb j j refl) (omega arith)) (λ i h. rw (ne_eqb j i (λ e. h (sym e))) (omega arith))
 
 -- k more at j
-pub upd_add : (f : ℕ → ℕ) (j k i : ℕ) → upd f j (f j + k) i ≡ f i + (if eqb j i then k else 0)
-unfolding if◌then◌else◌
-upd_add f j k = upd_all (λ i v. v ≡ f i + (if eqb j i then k else 0)) f j (f j + k) (rw (eq-eqb j j refl)) (λ i h. rw (ne_eqb j i (λ e. h (sym e))) (omega arith))
+pub upd_add : (f : ℕ → ℕ) (j k i : ℕ) → upd f j (f j + k) i ≡ f i + (when eqb j i then k else 0)
+unfolding when◌then◌else◌
+upd_add f j k = upd_all (λ i v. v ≡ f i + (when eqb j i then k else 0)) f j (f j + k) (rw (eq-eqb j j refl)) (λ i h. rw (ne_eqb j i (λ e. h (sym e))) (omega arith))

@@ -1,6 +1,6 @@
 -- Chains of links. A link is a number: 0 leads nowhere, suc x leads to x, and next x is the link that x has.
 use Rattle.std.specs.Prelude.{ℕ, zero, suc, Bool, true, false}
-use Rattle.laws.specs.Bools.{if◌then◌else◌}
+use Rattle.laws.specs.Bools.{when◌then◌else◌}
 
 module _ {ℓ} {A : Type ℓ} where
   -- the step is taken at each element of the chain in turn, at most n of them
@@ -20,4 +20,4 @@ ends_in next (suc n) (suc x) = ends_in next n (next x)
 unfoldable pub first_along : (ℕ → Bool) → (ℕ → ℕ) → ℕ → ℕ → ℕ
 first_along p next zero link = 0
 first_along p next (suc n) zero = 0
-first_along p next (suc n) (suc x) = if p x then suc x else first_along p next n (next x)
+first_along p next (suc n) (suc x) = when p x then suc x else first_along p next n (next x)

@@ -1,6 +1,6 @@
 -- What holds, is counted, summed or found over the numbers 0 to n - 1. Each recurses on the bound.
 use Rattle.std.specs.Prelude.{ℕ, zero, suc, ◌+◌, Bool, true, false, ◌&&◌, ◌||◌, List, [], ◌∷◌, ◌++◌, ltb}
-use Rattle.laws.specs.Bools.{if◌then◌else◌, one}
+use Rattle.laws.specs.Bools.{when◌then◌else◌, one}
 
 -- the test holds at every number below n
 unfoldable pub all_to : (ℕ → Bool) → ℕ → Bool
@@ -25,22 +25,22 @@ sum_to f (suc n) = sum_to f n + f n
 -- the least number below n that passes the test; n where there is none
 unfoldable pub first_to : (ℕ → Bool) → ℕ → ℕ
 first_to p zero = 0
-first_to p (suc n) = if ltb (first_to p n) n then first_to p n else (if p n then n else suc n)
+first_to p (suc n) = when ltb (first_to p n) n then first_to p n else (when p n then n else suc n)
 
 -- the link to the greatest number below n that passes the test: 0 where there is none, else the number plus 1
 unfoldable pub last_to : (ℕ → Bool) → ℕ → ℕ
 last_to p zero = 0
-last_to p (suc n) = if p n then suc n else last_to p n
+last_to p (suc n) = when p n then suc n else last_to p n
 
 -- the greatest number up to n, n among them, that passes the test; 0 where there is none
 unfoldable pub greatest_to : (ℕ → Bool) → ℕ → ℕ
 greatest_to p zero = 0
-greatest_to p (suc n) = if p (suc n) then suc n else greatest_to p n
+greatest_to p (suc n) = when p (suc n) then suc n else greatest_to p n
 
 -- the numbers below n that pass the test, rising
 unfoldable pub chosen_to : (ℕ → Bool) → ℕ → List ℕ
 chosen_to p zero = []
-chosen_to p (suc n) = if p n then chosen_to p n ++ (n ∷ []) else chosen_to p n
+chosen_to p (suc n) = when p n then chosen_to p n ++ (n ∷ []) else chosen_to p n
 
 module _ {ℓ} {A : Type ℓ} where
   -- f 0, .., f (n - 1) as a list

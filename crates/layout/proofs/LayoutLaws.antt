@@ -8,47 +8,47 @@ use native.Mathlib.Decide.{dec_lt}
 use lib.ListN.{length}
 use lib.Dec.{eqb, ltb}
 use borrow.Author.Tests.{eqb-true, ltb-false, ne_eqb, lt-ltb, le-ltb}
-use Rattle.laws.specs.Bools.{if◌then◌else◌}
+use Rattle.laws.specs.Bools.{when◌then◌else◌}
 use Rattle.laws.proofs.Bools.{case_bool, false_of, if_cases, or_left, or_right, or_neither, or_left_false, or_right_false}
 use Rattle.layout.specs.Layout.{word, is_kind, head_of, tail_of, size_of, list_places, text_places, row_length, lacks_room, end_before}
 
 -- Heads.
 
 pub head_five : (k : ℕ) → eqb k 3 || eqb k 4 ≡ true → head_of k ≡ 5
-unfolding head_of if◌then◌else◌
+unfolding head_of when◌then◌else◌
 head_five k h = go (eqb k 1)
   where
-    go : (b : Bool) → ◌≡◌ {A = ℕ} (if b || eqb k 3 || eqb k 4 then 5 else if eqb k 2 || eqb k 5 || eqb k 6 then 2 else 0) 5
+    go : (b : Bool) → ◌≡◌ {A = ℕ} (when b || eqb k 3 || eqb k 4 then 5 else when eqb k 2 || eqb k 5 || eqb k 6 then 2 else 0) 5
     go true = refl
     go false = rw h refl
 
 pub head_job : (k : ℕ) → k ≡ 1 → head_of k ≡ 5
-unfolding head_of if◌then◌else◌
+unfolding head_of when◌then◌else◌
 head_job k h = rw h refl
 
 pub head_pick : (k : ℕ) → k ≡ 2 → head_of k ≡ 2
-unfolding head_of if◌then◌else◌
+unfolding head_of when◌then◌else◌
 head_pick k h = rw h refl
 
 pub head_success : (k : ℕ) → k ≡ 3 → head_of k ≡ 5
-unfolding head_of if◌then◌else◌
+unfolding head_of when◌then◌else◌
 head_success k h = rw h refl
 
 pub head_failure : (k : ℕ) → k ≡ 4 → head_of k ≡ 5
-unfolding head_of if◌then◌else◌
+unfolding head_of when◌then◌else◌
 head_failure k h = rw h refl
 
 pub head_ask : (k : ℕ) → k ≡ 5 → head_of k ≡ 2
-unfolding head_of if◌then◌else◌
+unfolding head_of when◌then◌else◌
 head_ask k h = rw h refl
 
 pub head_board : (k : ℕ) → k ≡ 6 → head_of k ≡ 2
-unfolding head_of if◌then◌else◌
+unfolding head_of when◌then◌else◌
 head_board k h = rw h refl
 
 -- the kind that is left where it is known and none of the others
 pub last_kind : (k : ℕ) → (head_of k ≡ 0 → ⊥) → (k ≡ 1 → ⊥) → (k ≡ 2 → ⊥) → (k ≡ 3 → ⊥) → (k ≡ 4 → ⊥) → (k ≡ 5 → ⊥) → k ≡ 6
-unfolding head_of if◌then◌else◌
+unfolding head_of when◌then◌else◌
 last_kind k h a b c d e =
     case_bool (eqb k 6) (eqb-true k 6) (λ f. absurd (h (rw (ne_eqb k 1 a, ne_eqb k 2 b, ne_eqb k 3 c, ne_eqb k 4 d, ne_eqb k 5 e, f) refl)))
 
@@ -62,31 +62,31 @@ inside e l m = omega (arith, e, l, m)
 
 module _ (words : List ℕ) where
   pub tail_job : word words 0 ≡ 1 → word words 4 ≡ tail_of words
-  unfolding tail_of if◌then◌else◌
+  unfolding tail_of when◌then◌else◌
   tail_job h = rw h refl
 
   pub tail_none : (word words 0 ≡ 1 → ⊥) → 0 ≡ tail_of words
-  unfolding tail_of if◌then◌else◌
+  unfolding tail_of when◌then◌else◌
   tail_none h = rw (ne_eqb (word words 0) 1 h) refl
 
   pub list_job : word words 0 ≡ 1 → word words 3 ≡ list_places words
-  unfolding list_places if◌then◌else◌
+  unfolding list_places when◌then◌else◌
   list_job h = rw h refl
 
   pub list_report : (word words 0 ≡ 1 → ⊥) → is_kind 3 words || is_kind 4 words ≡ true → word words 4 ≡ list_places words
-  unfolding list_places if◌then◌else◌
+  unfolding list_places when◌then◌else◌
   list_report n h = rw (ne_eqb (word words 0) 1 n, h) refl
 
   pub list_none : (word words 0 ≡ 1 → ⊥) → is_kind 3 words || is_kind 4 words ≡ false → 0 ≡ list_places words
-  unfolding list_places if◌then◌else◌
+  unfolding list_places when◌then◌else◌
   list_none n h = rw (ne_eqb (word words 0) 1 n, h) refl
 
   pub text_board : word words 0 ≡ 6 → word words 1 ≡ text_places words
-  unfolding text_places if◌then◌else◌
+  unfolding text_places when◌then◌else◌
   text_board h = rw h refl
 
   pub text_none : (word words 0 ≡ 6 → ⊥) → 0 ≡ text_places words
-  unfolding text_places if◌then◌else◌
+  unfolding text_places when◌then◌else◌
   text_none h = rw (ne_eqb (word words 0) 6 h) refl
 
 -- Why a run ends, case by case.
@@ -111,25 +111,25 @@ module _ (words : List ℕ) (h : ℕ) (e : h ≡ head_of (word words 0)) where
 
 module _ (words : List ℕ) (answers lists texts : ℕ) where
   pub end_none : length words ≡ 0 → 1 ≡ end_before words answers lists texts
-  unfolding end_before if◌then◌else◌
+  unfolding end_before when◌then◌else◌
   end_none h = rw h refl
 
   pub end_unknown : (length words ≡ 0 → ⊥) → head_of (word words 0) ≡ 0 → 3 ≡ end_before words answers lists texts
-  unfolding end_before if◌then◌else◌
+  unfolding end_before when◌then◌else◌
   end_unknown n h = rw (ne_eqb (length words) 0 n, h) refl
 
   pub end_short : (length words ≡ 0 → ⊥) → (head_of (word words 0) ≡ 0 → ⊥) → length words < size_of words → 2 ≡ end_before words answers lists texts
-  unfolding end_before if◌then◌else◌
+  unfolding end_before when◌then◌else◌
   end_short n k h = rw (ne_eqb (length words) 0 n, ne_eqb (head_of (word words 0)) 0 k, lt-ltb (length words) (size_of words) h) refl
 
   -- the numbers are there: only room can be wanting
   module _ (n : length words ≡ 0 → ⊥) (k : head_of (word words 0) ≡ 0 → ⊥) (whole : size_of words ≤ length words) where
     pub end_full : lacks_room words answers lists texts ≡ true → 4 ≡ end_before words answers lists texts
-    unfolding end_before if◌then◌else◌
+    unfolding end_before when◌then◌else◌
     end_full h = rw (ne_eqb (length words) 0 n, ne_eqb (head_of (word words 0)) 0 k, le-ltb (length words) (size_of words) whole, h) refl
 
     pub end_not : lacks_room words answers lists texts ≡ false → 0 ≡ end_before words answers lists texts
-    unfolding end_before if◌then◌else◌
+    unfolding end_before when◌then◌else◌
     end_not h = rw (ne_eqb (length words) 0 n, ne_eqb (head_of (word words 0)) 0 k, le-ltb (length words) (size_of words) whole, h) refl
 
   pub lacks_row : answers < row_length → lacks_room words answers lists texts ≡ true
@@ -157,7 +157,7 @@ end_most words answers lists texts =
     (one (eqb (head_of (word words 0)) 0) (omega arith)
     (one (ltb (length words) (size_of words)) (omega arith) (one (lacks_room words answers lists texts) (omega arith) (omega arith))))
   where
-    one : {x y : ℕ} (b : Bool) → x ≤ 4 → y ≤ 4 → (if b then x else y) ≤ 4
+    one : {x y : ℕ} (b : Bool) → x ≤ 4 → y ≤ 4 → (when b then x else y) ≤ 4
     one b h k = if_cases (λ n. n ≤ 4) b (λ e. h) (λ e. k)
 
 -- What holds where it does not end.

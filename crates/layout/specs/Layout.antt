@@ -1,6 +1,6 @@
 -- The lists of `run`: how numbers are read as calls, and how answers are written as numbers. docs/RUN.md has the same as a table.
 use Rattle.std.specs.Prelude.{ℕ, zero, suc, ◌+◌, ◌-◌, Bool, ◌||◌, List, [], ◌∷◌, length, get_or, take, drop, eqb, ltb}
-use Rattle.laws.specs.Bools.{if◌then◌else◌}
+use Rattle.laws.specs.Bools.{when◌then◌else◌}
 use Rattle.laws.specs.Sequence.{padded}
 use Rattle.rules.specs.declared.Outcome.{Outcome}
 use Rattle.rules.specs.declared.Outcome.TheVariants
@@ -21,10 +21,10 @@ is_kind k words = eqb (word words 0) k
 
 -- how many numbers there are before a job's destinations; 0 for an unknown kind
 unfoldable pub head_of : ℕ → ℕ
-head_of k = if eqb k 1 || eqb k 3 || eqb k 4 then 5 else if eqb k 2 || eqb k 5 || eqb k 6 then 2 else 0
+head_of k = when eqb k 1 || eqb k 3 || eqb k 4 then 5 else when eqb k 2 || eqb k 5 || eqb k 6 then 2 else 0
 
 unfoldable pub tail_of : List ℕ → ℕ
-tail_of words = if is_kind 1 words then word words 4 else 0
+tail_of words = when is_kind 1 words then word words 4 else 0
 
 -- how many numbers the call at the front takes
 unfoldable pub size_of : List ℕ → ℕ
@@ -33,21 +33,21 @@ size_of words = head_of (word words 0) + tail_of words
 -- how many places of the slice of lists, and of the slice of texts, are lent to it
 unfoldable pub list_places : List ℕ → ℕ
 list_places words =
-    if is_kind 1 words then word words 3
-    else if is_kind 3 words || is_kind 4 words then word words 4
+    when is_kind 1 words then word words 3
+    else when is_kind 3 words || is_kind 4 words then word words 4
     else 0
 
 unfoldable pub text_places : List ℕ → ℕ
-text_places words = if is_kind 6 words then word words 1 else 0
+text_places words = when is_kind 6 words then word words 1 else 0
 
 -- the call at the front, with the buffers that it is lent
 unfoldable pub call_of : List ℕ → List ℕ → List ℕ → Call
 call_of words list text =
-    if is_kind 1 words then job (word words 1) (word words 2) (take (word words 4) (drop 5 words)) list
-    else if is_kind 2 words then pick (word words 1)
-    else if is_kind 3 words then report (word words 1) (word words 2) (word words 3) Outcome.Success list
-    else if is_kind 4 words then report (word words 1) (word words 2) (word words 3) Outcome.Failure list
-    else if is_kind 5 words then ask (word words 1)
+    when is_kind 1 words then job (word words 1) (word words 2) (take (word words 4) (drop 5 words)) list
+    else when is_kind 2 words then pick (word words 1)
+    else when is_kind 3 words then report (word words 1) (word words 2) (word words 3) Outcome.Success list
+    else when is_kind 4 words then report (word words 1) (word words 2) (word words 3) Outcome.Failure list
+    else when is_kind 5 words then ask (word words 1)
     else board text
 
 -- An answer is its refusal, 0 for none; how many values it has; and the values, with zeros behind them up to `row_values`.
@@ -84,10 +84,10 @@ lacks_room words answers lists texts = ltb answers row_length || ltb lists (list
 
 unfoldable pub end_before : List ℕ → ℕ → ℕ → ℕ → ℕ
 end_before words answers lists texts =
-    if eqb (length words) 0 then 1
-    else if eqb (head_of (word words 0)) 0 then 3
-    else if ltb (length words) (size_of words) then 2
-    else if lacks_room words answers lists texts then 4
+    when eqb (length words) 0 then 1
+    else when eqb (head_of (word words 0)) 0 then 3
+    else when ltb (length words) (size_of words) then 2
+    else when lacks_room words answers lists texts then 4
     else 0
 
 -- The calls that are run, and why it ends.

@@ -1,6 +1,6 @@
 -- Who stays after a report, over the columns that the code reads: what rules/specs/Reporting.antt says of a state with these columns.
 use Rattle.std.specs.Prelude.{ℕ, ◌+◌, ◌*◌, ◌<◌, ◌≡◌, Bool, true, false, not, ◌&&◌, ◌||◌, List, get_or, eqb, ltb}
-use Rattle.laws.specs.Bools.{if◌then◌else◌}
+use Rattle.laws.specs.Bools.{when◌then◌else◌}
 use Rattle.laws.specs.Range.{any_to}
 use Rattle.laws.specs.Chain.{first_along}
 use Rattle.rules.specs.Sizes.{max_jobs, max_entries}
@@ -33,4 +33,4 @@ nearest_of stays parent link = first_along (λ x. get_or stays x false) (at pare
 
 -- the parent of a job after the others have left
 abbrev pub adopted_at : List Bool → List ℕ → ℕ → ℕ
-adopted_at stays parent j = if get_or stays j false then nearest_of stays parent (at parent j) else at parent j
+adopted_at stays parent j = when get_or stays j false then nearest_of stays parent (at parent j) else at parent j

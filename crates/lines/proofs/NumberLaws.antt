@@ -10,7 +10,7 @@ use lib.ListN.{length, get_or, drop, drop_of_length-le}
 use lib.Seq.{drop-cons}
 use lib.Dec.{leb}
 use borrow.Author.Tests.{le-leb, lt-leb, lt-ltb, le-ltb}
-use Rattle.laws.specs.Bools.{if◌then◌else◌}
+use Rattle.laws.specs.Bools.{when◌then◌else◌}
 use Rattle.laws.specs.Sequence.{every_in}
 use Rattle.laws.proofs.Bools.{if_false, and_left_false, and_right_false}
 use Rattle.lines.specs.declared.text.Number.{Number}
@@ -39,7 +39,7 @@ not_number word h = sym (if_false _ _ h)
 
 module _ (word : List ℕ) (x i : ℕ) (v : Valued word x i) where
   pub valued_end : length word ≤ i → Number.Is x ≡ number_of word
-  unfolding number_of is_number value_from every_in if◌then◌else◌
+  unfolding number_of is_number value_from every_in when◌then◌else◌
   valued_end h =
       let e : drop i word ≡ [] = drop_of_length-le word h in
       let d : every_in is_digit word ≡ true = v.digits ∙ rw e in

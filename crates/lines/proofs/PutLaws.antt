@@ -9,7 +9,7 @@ use lib.ListN.{length, get_or, set, take, drop, length-append, take-append-drop,
 use lib.Seq.{sets, sets-eq, length-sets, drop-drop, set_out, take-suc, take_at, take_all, length-take-le}
 use borrow.Rule.Slice.PartMut.{put_mid}
 use borrow.Author.Tests.{eq-eqb, ne_eqb}
-use Rattle.laws.specs.Bools.{if◌then◌else◌}
+use Rattle.laws.specs.Bools.{when◌then◌else◌}
 use Rattle.laws.specs.Wrote.{Wrote}
 use Rattle.laws.proofs.Writing.{sets_append}
 use Rattle.rules.specs.Board.{numbered}
@@ -124,11 +124,11 @@ module _ (text e : List ℕ) (at i : ℕ) {x : List ℕ} {p : ℕ} (v : Put (map
       (put_more v w)
 
 pub shown_end : (b : ℕ) → b ≡ 10 → 124 ≡ shown_byte b
-unfolding shown_byte if◌then◌else◌
+unfolding shown_byte when◌then◌else◌
 shown_end b h = rw (eq-eqb b 10 h) refl
 
 pub shown_other : (b : ℕ) → (b ≡ 10 → ⊥) → b ≡ shown_byte b
-unfolding shown_byte if◌then◌else◌
+unfolding shown_byte when◌then◌else◌
 shown_other b h = rw (ne_eqb b 10 h) refl
 
 -- A word that another writer put at the front of a buffer.

@@ -9,7 +9,7 @@ use native.Mathlib.Decide.{dec_lt}
 use borrow.Author.Tests.{not-true}
 use lib.ListN.{length, set, take, drop, length-set, drop_of_length-le}
 use lib.Seq.{take-suc-set}
-use Rattle.laws.specs.Bools.{if◌then◌else◌}
+use Rattle.laws.specs.Bools.{when◌then◌else◌}
 use Rattle.laws.proofs.Bools.{and_left_false, true_not_false}
 use Rattle.lines.specs.declared.text.Number.{Number}
 use Rattle.lines.specs.Words.{pieces, not_empty, words_of, value_of, is_number, all_numbers, numbers_of, number_of, FirstFrom, is_byte, not_blank, Read}
@@ -19,18 +19,18 @@ use Rattle.lines.proofs.WordLaws.{words_skip, words_first}
 
 module _ (word : List ℕ) where
   pub number_is : (x : ℕ) → number_of word ≡ Number.Is x → (is_number word ≡ true) × (value_of word ≡ x)
-  unfolding number_of if◌then◌else◌
+  unfolding number_of when◌then◌else◌
   number_is x h = go (is_number word) refl h
     where
-      go : (b : Bool) → is_number word ≡ b → (if b then Number.Is (value_of word) else Number.No) ≡ Number.Is x → (is_number word ≡ true) × (value_of word ≡ x)
+      go : (b : Bool) → is_number word ≡ b → (when b then Number.Is (value_of word) else Number.No) ≡ Number.Is x → (is_number word ≡ true) × (value_of word ≡ x)
       go true e h = (e, cc)
       go false e h = let z : ◌≡◌ {A = ℕ} 0 1 = cc in absurd (omega arith)
 
   pub number_not : number_of word ≡ Number.No → is_number word ≡ false
-  unfolding number_of if◌then◌else◌
+  unfolding number_of when◌then◌else◌
   number_not h = go (is_number word) refl h
     where
-      go : (b : Bool) → is_number word ≡ b → (if b then Number.Is (value_of word) else Number.No) ≡ Number.No → is_number word ≡ false
+      go : (b : Bool) → is_number word ≡ b → (when b then Number.Is (value_of word) else Number.No) ≡ Number.No → is_number word ≡ false
       go true e h = let z : ◌≡◌ {A = ℕ} 0 1 = cc in absurd (omega arith)
       go false e h = e
 
@@ -68,7 +68,7 @@ reading_start s from out at f =
 
 module _ (s : List ℕ) (from : ℕ) (out₀ out : List ℕ) (count at : ℕ) (r : Reading s from out₀ out count at) where
   pub reading_end : length s ≤ at → Read (words_of (drop from s)) true count out
-  unfolding all_numbers if◌then◌else◌
+  unfolding all_numbers when◌then◌else◌
   reading_end h =
       let e : words_of (drop at s) ≡ [] = words_none s at h in
       record {
@@ -90,7 +90,7 @@ module _ (s : List ℕ) (from : ℕ) (out₀ out : List ℕ) (count at : ℕ) (r
       next = words_first s at end (r.begun h) f
 
       pub reading_not : number_of word ≡ Number.No → Read (words_of (drop from s)) false 0 out
-      unfolding all_numbers if◌then◌else◌
+      unfolding all_numbers when◌then◌else◌
       reading_not e =
           record {
             told = sym (r.told ∙ ap all_numbers next ∙ and_left_false _ (number_not word e));

@@ -6,7 +6,7 @@ use native.Mathlib.Nat.{div-lt_iff_lt-mul}
 use native.Mathlib.Omega.{arith}
 use lib.ListN.{length, drop}
 use borrow.Author.Tests.{eq-eqb, ne_eqb, le-leb, lt-leb}
-use Rattle.laws.specs.Bools.{if◌then◌else◌}
+use Rattle.laws.specs.Bools.{when◌then◌else◌}
 use Rattle.laws.specs.Range.{table_to}
 use Rattle.laws.proofs.Fill.{fill_all}
 use Rattle.rules.specs.declared.Settings.{Settings}
@@ -18,7 +18,7 @@ use Rattle.lines.specs.Setups.{place_of_d, announced, count_place, settings_at, 
 
 module _ (words : List ℕ) where
   not_announced : (length words ≡ place_of_d words + 1 + at words (place_of_d words) → ⊥) → 0 ≡ count_place words
-  unfolding count_place announced if◌then◌else◌
+  unfolding count_place announced when◌then◌else◌
   not_announced h = rw (ne_eqb (length words) (place_of_d words + 1 + at words (place_of_d words)) h) refl
 
   module _ (t : ℕ) (e : t ≡ at words 0) where
@@ -36,7 +36,7 @@ module _ (words : List ℕ) where
       other_count n = not_announced (λ q. n (omega (arith, e, q, same_place)))
 
       pub the_count : d ≡ length words - (1 + 13 * t) - 1 → 1 + 13 * t ≡ count_place words
-      unfolding count_place announced if◌then◌else◌
+      unfolding count_place announced when◌then◌else◌
       the_count q =
           let k : length words ≡ place_of_d words + 1 + at words (place_of_d words) = omega (arith, e, q, same_place) in
           rw (eq-eqb (length words) (place_of_d words + 1 + at words (place_of_d words)) k, e) refl
@@ -44,7 +44,7 @@ module _ (words : List ℕ) where
 -- Settings.
 
 pub settings_none : (words : List ℕ) (t i : ℕ) (g : Settings) → g ≡ zero_settings → t ≤ i → g ≡ settings_in words t i
-unfolding settings_in if◌then◌else◌
+unfolding settings_in when◌then◌else◌
 settings_none words t i g e h = rw (le-leb t i h, e) refl
 
 pub settings_made :
@@ -67,7 +67,7 @@ pub settings_made :
       suspension = x12;
     })
     (settings_in words t i)
-unfolding settings_in settings_at if◌then◌else◌
+unfolding settings_in settings_at when◌then◌else◌
 settings_made words t i p q h e0 e1 e2 e3 e4 e5 e6 e7 e8 e9 e10 e11 e12 =
     rw (lt-leb t i h, ← q, e0, e1, e2, e3, e4, e5, e6, e7, e8, e9, e10, e11, e12) refl
 

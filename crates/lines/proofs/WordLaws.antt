@@ -10,7 +10,7 @@ use lib.Seq.{drop-cons, drop-drop, get_or-take, get_or-drop, length-take-le}
 use lib.Dec.{eqb}
 use lib.Pointwise.{pointwise}
 use borrow.Author.Tests.{eqb-true, not-true, not-false}
-use Rattle.laws.specs.Bools.{if◌then◌else◌}
+use Rattle.laws.specs.Bools.{when◌then◌else◌}
 use Rattle.laws.specs.Sequence.{every_in}
 use Rattle.laws.proofs.Bools.{and_left, and_right, not_is_true, true_not_false}
 use Rattle.laws.proofs.Sequence.{every_from_get_or}
@@ -20,17 +20,17 @@ abbrev no_blank : ℕ → Bool
 no_blank b = not (eqb b 32)
 
 pieces_alone : (p : List ℕ) → every_in no_blank p ≡ true → pieces p ≡ p ∷ []
-unfolding pieces longer every_in if◌then◌else◌
+unfolding pieces longer every_in when◌then◌else◌
 pieces_alone [] h = refl
 pieces_alone (b ∷ p) h = rw (not-true (eqb b 32) (and_left (no_blank b) (every_in no_blank p) h), pieces_alone p (and_right (no_blank b) (every_in no_blank p) h)) refl
 
 pieces_before : (p q : List ℕ) → every_in no_blank p ≡ true → pieces (p ++ (32 ∷ q)) ≡ p ∷ pieces q
-unfolding pieces longer every_in if◌then◌else◌
+unfolding pieces longer every_in when◌then◌else◌
 pieces_before [] q h = refl
 pieces_before (b ∷ p) q h = rw (not-true (eqb b 32) (and_left (no_blank b) (every_in no_blank p) h), pieces_before p q (and_right (no_blank b) (every_in no_blank p) h)) refl
 
 words_blank : (q : List ℕ) → words_of (32 ∷ q) ≡ words_of q
-unfolding words_of pieces not_empty if◌then◌else◌
+unfolding words_of pieces not_empty when◌then◌else◌
 words_blank q = refl
 
 words_alone : (p : List ℕ) → 0 < length p → every_in no_blank p ≡ true → words_of p ≡ p ∷ words_of []

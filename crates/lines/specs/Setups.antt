@@ -1,6 +1,6 @@
 -- A set-up read from numbers: T, then T times 13 numbers, then D, then D homes.
 use Rattle.std.specs.Prelude.{ℕ, ◌+◌, ◌*◌, Bool, List, length, eqb, leb}
-use Rattle.laws.specs.Bools.{if◌then◌else◌}
+use Rattle.laws.specs.Bools.{when◌then◌else◌}
 use Rattle.laws.specs.Range.{table_to}
 use Rattle.rules.specs.declared.Settings.{Settings}
 use Rattle.rules.specs.declared.Setup.{Setup}
@@ -16,7 +16,7 @@ announced words = eqb (length words) (place_of_d words + 1 + at words (place_of_
 
 -- 0 where they are not
 unfoldable pub count_place : List ℕ → ℕ
-count_place words = if announced words then place_of_d words else 0
+count_place words = when announced words then place_of_d words else 0
 
 -- the 13 numbers from a place on: agents c L d M window-limit initial positive-percent positive-form negative-percent negative-form cohort-limit suspension
 unfoldable pub settings_at : List ℕ → ℕ → Settings
@@ -37,7 +37,7 @@ settings_at words p =
 
 -- those of transport i, of t; zeros where there is none
 unfoldable pub settings_in : List ℕ → ℕ → ℕ → Settings
-settings_in words t i = if leb t i then zero_settings else settings_at words (1 + 13 * i)
+settings_in words t i = when leb t i then zero_settings else settings_at words (1 + 13 * i)
 
 -- the homes, behind the place of D; zeros past the last number
 unfoldable pub homes_behind : List ℕ → ℕ → List ℕ

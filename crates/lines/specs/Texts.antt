@@ -1,7 +1,7 @@
 -- The text of each answer, and what it is to put a text into a buffer.
 use Rattle.std.specs.Prelude.{ℕ, ◌+◌, min, max, ◌≡◌, List, [], ◌∷◌, ◌++◌, map, length, get_or, take, eqb}
 use Rattle.std.proofs.lemmas.List.Edits.{sets}
-use Rattle.laws.specs.Bools.{if◌then◌else◌}
+use Rattle.laws.specs.Bools.{when◌then◌else◌}
 use Rattle.rules.specs.declared.SetupAnswer.{SetupAnswer}
 use Rattle.rules.specs.declared.JobAnswer.{JobAnswer}
 use Rattle.rules.specs.declared.PickAnswer.{PickAnswer}
@@ -28,7 +28,7 @@ counted n list = numbered n ++ numbers (take n list)
 
 -- each byte 10 as '|'
 unfoldable pub shown_byte : ℕ → ℕ
-shown_byte b = if eqb b 10 then 124 else b
+shown_byte b = when eqb b 10 then 124 else b
 
 -- why the number moved, by the case's number
 abbrev pub move_word : ℕ → List ℕ

@@ -1,6 +1,6 @@
 -- The words of a line, and words as decimal numbers. docs/DECISIONS.md, "The console".
 use Rattle.std.specs.Prelude.{ℕ, ◌+◌, ◌*◌, ◌-◌, ◌≤◌, ◌<◌, ◌≡◌, Bool, true, false, not, ◌&&◌, List, [], ◌∷◌, map, length, get_or, take, eqb, ltb, leb}
-use Rattle.laws.specs.Bools.{if◌then◌else◌}
+use Rattle.laws.specs.Bools.{when◌then◌else◌}
 use Rattle.laws.specs.Sequence.{every_in}
 use Rattle.lines.specs.declared.text.Number.{Number}
 
@@ -14,7 +14,7 @@ longer b (piece ∷ rest) = (b ∷ piece) ∷ rest
 -- what stands between single blanks
 unfoldable pub pieces : List ℕ → List (List ℕ)
 pieces [] = [] ∷ []
-pieces (b ∷ bytes) = if eqb b 32 then [] ∷ pieces bytes else longer b (pieces bytes)
+pieces (b ∷ bytes) = when eqb b 32 then [] ∷ pieces bytes else longer b (pieces bytes)
 
 -- those that are not empty
 unfoldable pub not_empty : List (List ℕ) → List (List ℕ)
@@ -76,7 +76,7 @@ not_blank s i = not (eqb (get_or s i 0) 32)
 pub record Read (words : List (List ℕ)) (whole : Bool) (count : ℕ) (exit : List ℕ) : Type 0 where
   pub told : whole ≡ all_numbers words
   pub fits : count ≤ length exit
-  pub front : take count exit ≡ (if whole then numbers_of words else [])
+  pub front : take count exit ≡ (when whole then numbers_of words else [])
 
 unfoldable pub number_of : List ℕ → Number
-number_of word = if is_number word then Number.Is (value_of word) else Number.No
+number_of word = when is_number word then Number.Is (value_of word) else Number.No

@@ -10,7 +10,7 @@ use lib.Dec.{eqb}
 use lib.ListN.{length, get_or, take, drop, set, length-append, length-take, take-append-drop}
 use lib.Seq.{take-suc, take-take, length-take-le}
 use borrow.Author.Tests.{eqb-true, eq-eqb, ne_eqb}
-use Rattle.laws.specs.Bools.{if◌then◌else◌, one}
+use Rattle.laws.specs.Bools.{when◌then◌else◌, one}
 use Rattle.laws.specs.Sequence.{keep, holds, times_in, insert_before, move_before, padded}
 use Rattle.laws.proofs.Bools.{case_bool, false_of}
 use Rattle.laws.proofs.Sequence.{times_tail_le, times_head_once, lacks_head, lacks_tail, holds_of_times}
@@ -20,11 +20,11 @@ use Rattle.laws.proofs.Front.{length_snoc}
 
 unfoldable pub moved : ℕ → ℕ → List ℕ → List ℕ
 moved x y [] = []
-moved x y (z ∷ l) = if eqb z x then moved x y l else if eqb z y then x ∷ z ∷ moved x y l else z ∷ moved x y l
+moved x y (z ∷ l) = when eqb z x then moved x y l else when eqb z y then x ∷ z ∷ moved x y l else z ∷ moved x y l
 
 module _ (x y : ℕ) where
   moved_append : (l m : List ℕ) → moved x y (l ++ m) ≡ moved x y l ++ moved x y m
-  unfolding moved if◌then◌else◌
+  unfolding moved when◌then◌else◌
   moved_append [] m = refl
   moved_append (z ∷ l) m =
       case_bool (eqb z x)
@@ -33,7 +33,7 @@ module _ (x y : ℕ) where
 
   -- where y is not met, x is only taken out
   moved_none : (l : List ℕ) → holds y l ≡ false → moved x y l ≡ keep (λ z. not (eqb z x)) l
-  unfolding moved keep if◌then◌else◌
+  unfolding moved keep when◌then◌else◌
   moved_none [] h = refl
   moved_none (z ∷ l) h =
       let g : eqb z y ≡ false = ne_eqb z y (λ e. lacks_head y z l h (sym e)) in
@@ -41,7 +41,7 @@ module _ (x y : ℕ) where
       case_bool (eqb z x) (λ t. rw (t, r)) (λ f. rw (f, g, r))
 
   pub moved_is : (l : List ℕ) → times_in y l ≤ 1 → moved x y l ≡ move_before x y l
-  unfolding moved move_before keep insert_before if◌then◌else◌
+  unfolding moved move_before keep insert_before when◌then◌else◌
   moved_is [] h = refl
   moved_is (z ∷ l) h =
       let r : moved x y l ≡ insert_before x y (keep (λ z. not (eqb z x)) l) = moved_is l (times_tail_le y z l h) in
@@ -52,15 +52,15 @@ module _ (x y : ℕ) where
       (λ g. rw (f, g, r)))
 
   pub moved_skip : (z : ℕ) → z ≡ x → moved x y (z ∷ []) ≡ []
-  unfolding moved if◌then◌else◌
+  unfolding moved when◌then◌else◌
   moved_skip z e = rw (eq-eqb z x e)
 
   pub moved_here : (z : ℕ) → z ≢ x → z ≡ y → moved x y (z ∷ []) ≡ x ∷ z ∷ []
-  unfolding moved if◌then◌else◌
+  unfolding moved when◌then◌else◌
   moved_here z ne e = rw (ne_eqb z x ne, eq-eqb z y e)
 
   pub moved_other : (z : ℕ) → z ≢ x → z ≢ y → moved x y (z ∷ []) ≡ z ∷ []
-  unfolding moved if◌then◌else◌
+  unfolding moved when◌then◌else◌
   moved_other z ne nf = rw (ne_eqb z x ne, ne_eqb z y nf)
 
   module _ (l : List ℕ) (i : ℕ) (h : i < length l) where

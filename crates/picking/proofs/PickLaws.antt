@@ -1,6 +1,6 @@
 -- A pick put together: what was chosen may be handed out, and what is handed out is what the rules pick.
 use Rattle.std.proofs.Common.{◌≡◌, ℕ, suc, ◌+◌, ◌*◌, ◌<◌, ◌≤◌, true, false, eqb, [], ◌∷◌, sym, refl, ap, ◌∙◌, subst, le_trans, lt_of_lt_of_le, mul-le-mul_right, arith, w32, Fits, eq-eqb}
-use Rattle.laws.specs.Bools.{if◌then◌else◌}
+use Rattle.laws.specs.Bools.{when◌then◌else◌}
 use Rattle.laws.proofs.Bools.{true_not_false, case_bool, and_both}
 use Rattle.laws.proofs.Chain.{link_cases}
 use Rattle.laws.proofs.Count.{count_le_bound}
@@ -97,18 +97,18 @@ may_preempt w now t y x shaped whole lane cur p =
 
 module _ (w : State) (now : ℕ) (c : Choice) (e : c ≡ choice_of w now) where
   pub nothing_found : c.found ≡ false → record { says = granted (0 ∷ []); state = w; buffer = [] } ≡ after_pick w now
-  unfolding after_pick choice_of if◌then◌else◌
+  unfolding after_pick choice_of when◌then◌else◌
   nothing_found f = case_bool (finds w) (λ t. true_not_false (sym (found_is t)) f) (λ n. rw n refl)
     where
       found_is : finds w ≡ true → true ≡ c.found
       found_is t = sym (ap (λ c. c.found) e ∙ rw t refl)
 
   some_found : c.found ≡ true → finds w ≡ true
-  unfolding choice_of if◌then◌else◌
+  unfolding choice_of when◌then◌else◌
   some_found f = case_bool (finds w) (λ t. t) (λ n. true_not_false f (ap (λ c. c.found) e ∙ rw n refl))
 
   chosen_is : c.found ≡ true → c ≡ chosen_on w now (next_transport w) (current_job w (next_transport w))
-  unfolding choice_of if◌then◌else◌
+  unfolding choice_of when◌then◌else◌
   chosen_is f = e ∙ rw (some_found f) refl
 
 -- From the current job.
@@ -116,7 +116,7 @@ module _ (w : State) (now : ℕ) (c : Choice) (e : c ≡ choice_of w now) where
 module _ (w : State) (now t y : ℕ) (f : finds w ≡ true) (et : t ≡ next_transport w) (ey : y ≡ current_job w t) (none : preemptor_of w now t y ≡ 0) where
   plain_reply : record { says = granted (y ∷ next_entry w y ∷ w.ticket ∷ passed_over w t y ∷ []); state = handed_out w t y (next_place w y) (next_entry w y); buffer = [] }
       ≡ after_pick w now
-  unfolding after_pick picking_reply picking pick_on pick_with pick_from if◌then◌else◌
+  unfolding after_pick picking_reply picking pick_on pick_with pick_from when◌then◌else◌
   plain_reply = rw (f, ← et, ← ey, none) refl
 
 -- From a job x that preempts it.
@@ -127,7 +127,7 @@ module _ (w : State) (now t y x : ℕ) (f : finds w ≡ true) (et : t ≡ next_t
 
   moved_reply : record { says = granted (x ∷ next_entry w x ∷ w.ticket ∷ passed_over w t y ∷ []); state = handed_out moved t x (next_place w x) (next_entry w x); buffer = [] }
       ≡ after_pick w now
-  unfolding after_pick picking_reply picking pick_on pick_with pick_from if◌then◌else◌
+  unfolding after_pick picking_reply picking pick_on pick_with pick_from when◌then◌else◌
   moved_reply = rw (f, ← et, ← ey, some, preempting_place w t x y (waiting_of w x) x, preempting_entry w t x y (waiting_of w x) x) refl
 
 -- What the code asks and gives, by what was chosen.

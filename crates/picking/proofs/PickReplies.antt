@@ -1,6 +1,6 @@
 -- A pick with a good clock; and what its reply tells by its case.
 use Rattle.std.proofs.Common.{◌≡◌, ℕ, true, false, [], refl, ap}
-use Rattle.laws.specs.Bools.{if◌then◌else◌}
+use Rattle.laws.specs.Bools.{when◌then◌else◌}
 use Rattle.rules.specs.declared.State.{State}
 use Rattle.rules.specs.declared.PickAnswer.{PickAnswer}
 use Rattle.rules.specs.Sound.{sound}
@@ -13,7 +13,7 @@ use Rattle.rules.proofs.Found.{finds_exactly}
 
 module _ (s : State) (now : ℕ) where
   pub pick_unrefused : sound s ≡ true → bad_clock s now ≡ false → pick_refusal s now ≡ 0
-  unfolding pick_refusal if◌then◌else◌
+  unfolding pick_refusal when◌then◌else◌
   pick_unrefused h b = rw (h, b) refl
 
   -- from the reply, what its case tells

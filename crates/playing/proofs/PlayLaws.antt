@@ -7,7 +7,7 @@ use native.Mathlib.Omega.{arith}
 use lib.ListN.{length}
 use lib.Dec.{eqb}
 use borrow.Author.Tests.{ne_eqb}
-use Rattle.laws.specs.Bools.{if◌then◌else◌}
+use Rattle.laws.specs.Bools.{when◌then◌else◌}
 use Rattle.rules.specs.declared.State.{State}
 use Rattle.rules.specs.declared.Outcome.{Outcome}
 use Rattle.rules.specs.declared.JobAnswer.{JobAnswer}
@@ -34,8 +34,8 @@ use Rattle.playing.specs.Plays.{printed, accepted_line, call_told, job_line, pic
 abbrev Valued : Reply → Type 0
 Valued r = 1 ≤ length r.says.values
 
-either_valued : (b : Bool) (x y : Reply) → Valued x → Valued y → Valued (if b then x else y)
-unfolding if◌then◌else◌
+either_valued : (b : Bool) (x y : Reply) → Valued x → Valued y → Valued (when b then x else y)
+unfolding when◌then◌else◌
 either_valued true x y h k = h
 either_valued false x y h k = k
 
@@ -86,7 +86,7 @@ none_played s {x} {e} {at} l = (l.0, put_next l.1 (put_none e at))
 module _ (s : State) (now t : ℕ) (dests list buffer : List ℕ) where
   job_printed : (z : State) (a : JobAnswer) → record { says = job_says a; state = z; buffer = buffer } ≡ reply_to s (job now t dests list)
       → job_line a ≡ printed (job now t dests list) (record { says = job_says a; state = z; buffer = buffer })
-  unfolding job_line printed accepted_line if◌then◌else◌
+  unfolding job_line printed accepted_line when◌then◌else◌
   job_printed z (JobAnswer.Refused k) h = rw (refusal_numbered s (job now t dests list) _ h refl) refl
   job_printed z (JobAnswer.Taken j k) h = refl
   job_printed z (JobAnswer.PutOff k) h = refl
@@ -103,7 +103,7 @@ module _ (s : State) (now t : ℕ) (dests list buffer : List ℕ) where
 module _ (s : State) (now : ℕ) where
   pick_printed : (z : State) (a : PickAnswer) → record { says = pick_says a; state = z; buffer = [] } ≡ reply_to s (pick now)
       → pick_line a ≡ printed (pick now) (record { says = pick_says a; state = z; buffer = [] })
-  unfolding pick_line printed accepted_line if◌then◌else◌
+  unfolding pick_line printed accepted_line when◌then◌else◌
   pick_printed z (PickAnswer.Refused k) h = rw (refusal_numbered s (pick now) _ h refl) refl
   pick_printed z (PickAnswer.Picked j i ticket passed) h = refl
   pick_printed z PickAnswer.Nothing h = refl
@@ -117,7 +117,7 @@ module _ (s : State) (now : ℕ) where
 module _ (s : State) (now i ticket : ℕ) (o : Outcome) (list buffer : List ℕ) where
   report_printed : (z : State) (a : ReportAnswer) → record { says = report_says a; state = z; buffer = buffer } ≡ reply_to s (report now i ticket o list)
       → report_line a ≡ printed (report now i ticket o list) (record { says = report_says a; state = z; buffer = buffer })
-  unfolding report_line printed accepted_line if◌then◌else◌
+  unfolding report_line printed accepted_line when◌then◌else◌
   report_printed z (ReportAnswer.Refused k) h = rw (refusal_numbered s (report now i ticket o list) _ h refl) refl
   report_printed z (ReportAnswer.Reported k m) h = refl
 

@@ -1,6 +1,6 @@
 -- Request A1: what a replay prints of a call, and the call of a record as the reader tells it.
 use Rattle.std.specs.Prelude.{ℕ, List, [], ◌∷◌, ◌++◌, take, eqb}
-use Rattle.laws.specs.Bools.{if◌then◌else◌}
+use Rattle.laws.specs.Bools.{when◌then◌else◌}
 use Rattle.rules.specs.declared.JobAnswer.{JobAnswer}
 use Rattle.rules.specs.declared.PickAnswer.{PickAnswer}
 use Rattle.rules.specs.declared.ReportAnswer.{ReportAnswer}
@@ -29,7 +29,7 @@ accepted_line (board text) values = []
 -- "a call the scheduler refuses prints its number"
 unfoldable pub printed : Call → Reply → List ℕ
 printed call r =
-    if eqb r.says.refusal 0
+    when eqb r.says.refusal 0
     then accepted_line call r.says.values
     else number_line r.says.refusal
 

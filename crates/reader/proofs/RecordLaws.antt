@@ -8,7 +8,7 @@ use lib.ListN.{length, take, drop, length-drop}
 use lib.Seq.{length-take-le}
 use lib.Dec.{leb}
 use borrow.Author.Tests.{le-leb, lt-leb, ne_eqb}
-use Rattle.laws.specs.Bools.{if◌then◌else◌}
+use Rattle.laws.specs.Bools.{when◌then◌else◌}
 use Rattle.laws.proofs.Bools.{case_bool}
 use Rattle.rules.specs.Setup.{within}
 use Rattle.journal.specs.declared.Record.{Record}
@@ -23,7 +23,7 @@ passes range (number x next) = range x
 passes range (fault k) = true
 
 ranged_passes : (range : ℕ → Bool) (n : Number) → passes range (ranged range n) ≡ true
-unfolding passes ranged if◌then◌else◌
+unfolding passes ranged when◌then◌else◌
 ranged_passes range (number x next) = case_bool (range x) (λ y. rw y y) (λ z. rw z refl)
 ranged_passes range (fault k) = refl
 
@@ -83,11 +83,11 @@ module _ (bytes : List ℕ) (start a : ℕ) where
 
     module _ {size g : ℕ} (s : Is (within 1 63) b size g) where
       pub name_cut : length bytes < g + size → name_fields bytes start a ≡ closed (refused 12 start)
-      unfolding name_fields name_from field_of if◌then◌else◌
+      unfolding name_fields name_from field_of when◌then◌else◌
       name_cut l = rw (n, s, lt-leb (g + size) (length bytes) l) refl
 
       pub name_whole : g + size ≤ length bytes → Read.Whole (Record.Name d size) (g + size) ≡ answer_of (name_fields bytes start a)
-      unfolding name_fields name_from field_of record_of answer_of if◌then◌else◌
+      unfolding name_fields name_from field_of record_of answer_of when◌then◌else◌
       name_whole l =
           let long : length (take size (drop g bytes)) ≡ size = length-take-le size (drop g bytes) (rw length-drop (omega (arith, l))) in
           rw (n, s, le-leb (g + size) (length bytes) l, long) refl
@@ -127,26 +127,26 @@ module _ (bytes : List ℕ) (start clock t : ℕ) (dests : List ℕ) (more a : �
 
 module _ (bytes : List ℕ) (offset : ℕ) (h : offset < length bytes) where
   pub reads_faulty : {k : ℕ} → ranged (within 0 3) (number_at bytes offset) ≡ fault k → read_at bytes offset ≡ closed (refused k offset)
-  unfolding read_at field_of if◌then◌else◌
+  unfolding read_at field_of when◌then◌else◌
   reads_faulty f = rw (lt-leb (length bytes) offset h, f) refl
 
   module _ {kind next : ℕ} (k : ranged (within 0 3) (number_at bytes offset) ≡ number kind next) where
     reads_fields : read_at bytes offset ≡ fields_of bytes offset kind next
-    unfolding read_at field_of if◌then◌else◌
+    unfolding read_at field_of when◌then◌else◌
     reads_fields = rw (lt-leb (length bytes) offset h, k) refl
 
     pub reads_name : kind ≡ 0 → read_at bytes offset ≡ name_fields bytes offset next
-    unfolding fields_of if◌then◌else◌
+    unfolding fields_of when◌then◌else◌
     reads_name e = reads_fields ∙ rw e refl
 
     pub reads_job : kind ≡ 1 → read_at bytes offset ≡ job_fields bytes offset next
-    unfolding fields_of if◌then◌else◌
+    unfolding fields_of when◌then◌else◌
     reads_job e = reads_fields ∙ rw e refl
 
     pub reads_pick : kind ≡ 2 → read_at bytes offset ≡ pick_fields bytes offset next
-    unfolding fields_of if◌then◌else◌
+    unfolding fields_of when◌then◌else◌
     reads_pick e = reads_fields ∙ rw e refl
 
     pub reads_report : (kind ≡ 0 → ⊥) → (kind ≡ 1 → ⊥) → (kind ≡ 2 → ⊥) → read_at bytes offset ≡ report_fields bytes offset next
-    unfolding fields_of if◌then◌else◌
+    unfolding fields_of when◌then◌else◌
     reads_report a b c = reads_fields ∙ rw (ne_eqb kind 0 a, ne_eqb kind 1 b, ne_eqb kind 2 c) refl

@@ -1,6 +1,6 @@
 -- Request A5, the call: from the state and all arguments, the lent list's contents among them, to what it answers and what the list then holds.
 use Rattle.std.specs.Prelude.{ℕ, ◌%◌, Bool, not, ◌&&◌, List, [], ◌∷◌, length, eqb, ltb, leb}
-use Rattle.laws.specs.Bools.{if◌then◌else◌}
+use Rattle.laws.specs.Bools.{when◌then◌else◌}
 use Rattle.laws.specs.Sequence.{every_in}
 use Rattle.rules.specs.declared.State.{State}
 use Rattle.rules.specs.Sizes.{max_length}
@@ -31,12 +31,12 @@ can_be_cut limit pairs =
 -- shorter than the pairs is 10"
 unfoldable pub group_refusal : State → ℕ → ℕ → List ℕ → List ℕ → ℕ
 group_refusal s t limit pairs list =
-    if not (sound s) then 1
-    else if not (within 1 max_recipients limit) then 2
-    else if not (ltb t s.setup.transports) then 4
-    else if not (can_be_cut limit pairs) then 5
-    else if not (every_in (is_destination_on s t) (destinations_of pairs)) then 6
-    else if ltb (length list) (length (destinations_of pairs)) then 10
+    when not (sound s) then 1
+    else when not (within 1 max_recipients limit) then 2
+    else when not (ltb t s.setup.transports) then 4
+    else when not (can_be_cut limit pairs) then 5
+    else when not (every_in (is_destination_on s t) (destinations_of pairs)) then 6
+    else when ltb (length list) (length (destinations_of pairs)) then 10
     else 0
 
 -- "The answer is the number of groups; no job is taken and all else stays."

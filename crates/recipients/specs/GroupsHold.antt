@@ -1,6 +1,6 @@
 -- What holds of the groups (A5), for every limit of 1 or more and every list of destinations; and what a relay does with them next.
 use Rattle.std.specs.Prelude.{ℕ, ◌≤◌, ◌<◌, ◌≡◌, List, length, eqb, ltb}
-use Rattle.laws.specs.Bools.{if◌then◌else◌}
+use Rattle.laws.specs.Bools.{when◌then◌else◌}
 use Rattle.laws.specs.Range.{count_to, first_to}
 use Rattle.rules.specs.declared.State.{State}
 use Rattle.rules.specs.State.{at}
@@ -48,8 +48,8 @@ JobFollows =
     (s : State) (now t limit : ℕ) (pairs numbers list : List ℕ)
     → group_refusal s t limit pairs numbers ≡ 0
     → job_refusal s now t (entries_of limit (destinations_of pairs)) list
-    ≡ (if bad_clock s now then 3
-    else if lacks_number (woken s now) (entries_of limit (destinations_of pairs)) then 7
-    else if lacks_places (woken s now) (entries_of limit (destinations_of pairs)) then 8
-    else if ltb (length list) (group_count limit (destinations_of pairs)) then 10
+    ≡ (when bad_clock s now then 3
+    else when lacks_number (woken s now) (entries_of limit (destinations_of pairs)) then 7
+    else when lacks_places (woken s now) (entries_of limit (destinations_of pairs)) then 8
+    else when ltb (length list) (group_count limit (destinations_of pairs)) then 10
     else 0)

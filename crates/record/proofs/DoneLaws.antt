@@ -8,7 +8,7 @@ use native.Mathlib.Omega.{arith}
 use lib.ListN.{length, take, drop}
 use lib.Seq.{take-append_seam}
 use borrow.Author.Tests.{le-leb}
-use Rattle.laws.specs.Bools.{if◌then◌else◌}
+use Rattle.laws.specs.Bools.{when◌then◌else◌}
 use Rattle.laws.proofs.Bools.{case_bool, if_true, if_false}
 use Rattle.journal.specs.declared.Written.{Written}
 use Rattle.journal.specs.Records.{Event}
@@ -47,7 +47,7 @@ module _ (e : Event) (b : List ℕ) where
   pub says_done :
       {line : Line} {a : Written} {z : List ℕ} {r : Recorded}
       → line ≡ says e → 1300 ≤ length b → a ≡ (writing_of e b 0).answer → z ≡ (writing_of e b 0).buffer → r ≡ recorded_as a → Done line r z
-  unfolding refusing bytes_for done_with size_of if◌then◌else◌
+  unfolding refusing bytes_for done_with size_of when◌then◌else◌
   says_done {z} {r} l h v w o = done_as l (case_bool (writable e)
       (λ t.
       let u : r ≡ Recorded.Bytes (length (bytes_of e)) = o ∙ ap recorded_as (v ∙ ap (λ x. x.answer) (used h t)) in

@@ -9,7 +9,7 @@ use lib.ListN.{length, take, drop, length-drop, drop_of_length-le}
 use lib.Seq.{drop-drop}
 use lib.Dec.{eqb, ltb}
 use borrow.Author.Tests.{eq-eqb, ne_eqb, lt-ltb, le-ltb}
-use Rattle.laws.specs.Bools.{if◌then◌else◌}
+use Rattle.laws.specs.Bools.{when◌then◌else◌}
 use Rattle.laws.specs.Sequence.{up_to}
 use Rattle.laws.proofs.Bools.{case_bool, if_true, if_false, and_both, and_left_false, and_right_false}
 use Rattle.rules.specs.State.{at}
@@ -87,7 +87,7 @@ module _ (line : List ℕ) where
   line_comment h = if_true _ _ (eq-eqb _ _ h)
 
   pub line_empty : (p : ℕ) → FirstFrom (not_blank line) 0 (length line) p → length line ≤ p → line_of line ≡ nothing
-  unfolding words_line line_of same_bytes up_to if◌then◌else◌
+  unfolding words_line line_of same_bytes up_to when◌then◌else◌
   line_empty p f h =
       let e : words_of line ≡ [] = skipped line 0 p f ∙ words_none line p h in
       let u : unblanked line ≡ [] = unblanked_is line p f ∙ drop_of_length-le line {i = p} h in
@@ -106,7 +106,7 @@ module _ (line : List ℕ) (p end : ℕ) (w : FirstWord line p end) where
     its_words : words_of line ≡ word ∷ words_of rest
     its_words = skipped line 0 p w.begins ∙ words_first line p end (w.begins.there h) (blank_behind line p end h (w.begins.there h) w.ends)
 
-    by_word : line_of line ≡ (if same_bytes word name_name then name_line (unblanked rest) else words_line (word ∷ words_of rest))
+    by_word : line_of line ≡ (when same_bytes word name_name then name_line (unblanked rest) else words_line (word ∷ words_of rest))
     unfolding line_of
     by_word = if_false _ _ (ne_eqb _ _ n) ∙ rw (behind_is line p end w, first_word_is line p end w, its_words) refl
 
@@ -120,7 +120,7 @@ module _ (line : List ℕ) (p end : ℕ) (w : FirstWord line p end) where
       line_none e = by_word ∙ if_false _ _ t ∙ if_false _ _ (sym r.told ∙ e)
 
       pub line_numbers : b ≡ true → line_of line ≡ numbers_line word (take k words)
-      unfolding words_line if◌then◌else◌
+      unfolding words_line when◌then◌else◌
       line_numbers e =
           let m : take k words ≡ numbers_of (words_of rest) = r.front ∙ rw e refl in
           by_word ∙ if_false _ _ t ∙ if_true _ _ (sym r.told ∙ e) ∙ rw m refl
@@ -133,7 +133,7 @@ module _ (line : List ℕ) (p end : ℕ) (w : FirstWord line p end) where
   abbrev has_rest : Bool
   has_rest = ltb 0 (length rest)
 
-  by_parts : name_line (unblanked line) ≡ (if has_word && is_number word && has_rest then says (name (value_of word) (drop 1 rest)) else none)
+  by_parts : name_line (unblanked line) ≡ (when has_word && is_number word && has_rest then says (name (value_of word) (drop 1 rest)) else none)
   unfolding name_line
   by_parts = rw (behind_is line p end w, first_word_is line p end w) refl
 
@@ -162,7 +162,7 @@ module _ (line : List ℕ) (p end : ℕ) (w : FirstWord line p end) where
 
 module _ (mode : ℕ) (line : List ℕ) where
   pub mode_none : mode ≡ 1 → line_in mode line ≡ none
-  unfolding line_in if◌then◌else◌
+  unfolding line_in when◌then◌else◌
   mode_none h = rw h refl
 
   pub mode_nothing : (mode ≡ 1 → ⊥) → (mode ≡ 0 → ⊥) → line_in mode line ≡ nothing

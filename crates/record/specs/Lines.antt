@@ -1,6 +1,6 @@
 -- What a line of `record` says, what is written for it, and what is told of it. docs/REPLAY.md, "Writing one".
 use Rattle.std.specs.Prelude.{ℕ, ◌+◌, ◌≡◌, ◌&&◌, List, [], ◌∷◌, length, take, drop, eqb, ltb}
-use Rattle.laws.specs.Bools.{if◌then◌else◌}
+use Rattle.laws.specs.Bools.{when◌then◌else◌}
 use Rattle.laws.specs.Sequence.{up_to}
 use Rattle.rules.specs.State.{at}
 use Rattle.lines.specs.Names.{job_name, pick_name, report_name}
@@ -24,7 +24,7 @@ name_name = 110 ∷ 97 ∷ 109 ∷ 101 ∷ []
 -- the line without the blanks at its front
 unfoldable pub unblanked : List ℕ → List ℕ
 unblanked [] = []
-unblanked (b ∷ line) = if eqb b 32 then unblanked line else b ∷ line
+unblanked (b ∷ line) = when eqb b 32 then unblanked line else b ∷ line
 
 -- the first word of a line that begins with one, and what stands behind it
 abbrev pub first_word : List ℕ → List ℕ
@@ -36,55 +36,55 @@ behind line = drop (length (first_word line)) line
 -- behind the word: D TEXT, "the rest of the line behind one blank"
 unfoldable pub name_line : List ℕ → Line
 name_line line =
-    if ltb 0 (length (first_word line)) && is_number (first_word line) && ltb 0 (length (behind line))
+    when ltb 0 (length (first_word line)) && is_number (first_word line) && ltb 0 (length (behind line))
     then says (name (value_of (first_word line)) (drop 1 (behind line)))
     else none
 
 -- clock transport count, then count destinations
 unfoldable pub job_line : List ℕ → Line
-job_line words = if eqb (length words) (3 + at words 2) then says (job (at words 0) (at words 1) (drop 3 words)) else none
+job_line words = when eqb (length words) (3 + at words 2) then says (job (at words 0) (at words 1) (drop 3 words)) else none
 
 -- clock
 unfoldable pub pick_line : List ℕ → Line
-pick_line words = if eqb (length words) 1 then says (pick (at words 0)) else none
+pick_line words = when eqb (length words) 1 then says (pick (at words 0)) else none
 
 -- clock entry ticket outcome
 unfoldable pub report_line : List ℕ → Line
-report_line words = if eqb (length words) 4 then says (report (at words 0) (at words 1) (at words 2) (at words 3)) else none
+report_line words = when eqb (length words) 4 then says (report (at words 0) (at words 1) (at words 2) (at words 3)) else none
 
 -- a word and its numbers
 unfoldable pub numbers_line : List ℕ → List ℕ → Line
 numbers_line word words =
-    if same_bytes word job_name then job_line words
-    else if same_bytes word pick_name then pick_line words
-    else if same_bytes word report_name then report_line words
+    when same_bytes word job_name then job_line words
+    else when same_bytes word pick_name then pick_line words
+    else when same_bytes word report_name then report_line words
     else none
 
 unfoldable pub words_line : List (List ℕ) → Line
 words_line [] = nothing
-words_line (word ∷ words) = if all_numbers words then numbers_line word (numbers_of words) else none
+words_line (word ∷ words) = when all_numbers words then numbers_line word (numbers_of words) else none
 
 unfoldable pub line_of : List ℕ → Line
 line_of line =
-    if eqb (at line 0) 35 then nothing
-    else if same_bytes (first_word (unblanked line)) name_name then name_line (unblanked (behind (unblanked line)))
+    when eqb (at line 0) 35 then nothing
+    else when same_bytes (first_word (unblanked line)) name_name then name_line (unblanked (behind (unblanked line)))
     else words_line (words_of line)
 
 -- Mode: 0 for a whole line; of one that was too long, 1, or another where it began with '#'.
 unfoldable pub line_in : ℕ → List ℕ → Line
-line_in mode line = if eqb mode 0 then line_of line else if eqb mode 1 then none else nothing
+line_in mode line = when eqb mode 0 then line_of line else when eqb mode 1 then none else nothing
 
 -- what is written: a line that says no record, or one that is refused, "leaves the journal as if it were not there"
 unfoldable pub bytes_for : Line → List ℕ
 bytes_for nothing = []
 bytes_for none = []
-bytes_for (says e) = if writable e then bytes_of e else []
+bytes_for (says e) = when writable e then bytes_of e else []
 
 -- what is done: so many bytes are written, or the line is told of; there is room for every record
 unfoldable pub done_with : Line → Recorded
 done_with nothing = Recorded.Nothing
 done_with none = Recorded.NoRecord
-done_with (says e) = if writable e then Recorded.Bytes (length (bytes_of e)) else Recorded.Refused 14
+done_with (says e) = when writable e then Recorded.Bytes (length (bytes_of e)) else Recorded.Refused 14
 
 -- how many bytes that is
 unfoldable pub size_of : Recorded → ℕ

@@ -7,7 +7,7 @@ use native.Mathlib.Omega.{arith}
 use lib.ListN.{length, take}
 use lib.Seq.{take_at}
 use borrow.Author.Tests.{le-ltb}
-use Rattle.laws.specs.Bools.{if◌then◌else◌}
+use Rattle.laws.specs.Bools.{when◌then◌else◌}
 use Rattle.rules.specs.declared.State.{State}
 use Rattle.rules.specs.declared.BoardAnswer.{BoardAnswer}
 use Rattle.rules.specs.State.{at}
@@ -48,7 +48,7 @@ board_fits calls = record { whole = (companions replay_setup in_range calls).rea
 module _ (s : State) (fits : BoardFits s) (text : List ℕ) (long : length text ≡ 4096) {a : BoardAnswer} {buffer : List ℕ}
     (gave : board_gave a s buffer ≡ board_reply s text) where
   told : {b : BoardAnswer} → a ≡ b → board_gave b s buffer ≡ accepted s (board text)
-  unfolding reply_to unless_refused board_refusal if◌then◌else◌
+  unfolding reply_to unless_refused board_refusal when◌then◌else◌
   told h = rw (← h) (gave ∙ rw (fits.whole, le-ltb (length text) (length (board_text s)) (omega (arith, long, fits.short))) refl)
 
   pub not_refused : {k : ℕ} → a ≡ BoardAnswer.Refused k → ⊥

@@ -7,7 +7,7 @@ use native.Mathlib.Decide.{dec_lt}
 use native.Mathlib.Omega.{arith}
 use lib.ListN.{length, take, length-append, length-take}
 use lib.Seq.{sets-eq, take_at}
-use Rattle.laws.specs.Bools.{if◌then◌else◌}
+use Rattle.laws.specs.Bools.{when◌then◌else◌}
 use Rattle.laws.proofs.Bools.{if_cases}
 use Rattle.rules.specs.declared.State.{State}
 use Rattle.rules.specs.State.{at}
@@ -43,7 +43,7 @@ calls_few (e ∷ es) = rw length-append (omega (arith, call_one e, calls_few es)
 
 -- What a call prints: a word of at most nine letters or a number of at most two digits, and a line end.
 
-either_few : (b : Bool) {k m : ℕ} → k ≤ 11 → m ≤ 11 → (if b then k else m) ≤ 11
+either_few : (b : Bool) {k m : ℕ} → k ≤ 11 → m ≤ 11 → (when b then k else m) ≤ 11
 either_few b h l = if_cases (λ n. n ≤ 11) b (λ e. h) (λ e. l)
 
 refusal_few : (s : State) (call : Call) → refusal_of s call ≤ 11

@@ -6,7 +6,7 @@ use native.Mathlib.Omega.{arith}
 use lib.ListN.{length, take, length-append}
 use lib.Seq.{length-sets, take_all, take_at}
 use borrow.Author.Tests.{le-leb, lt-leb}
-use Rattle.laws.specs.Bools.{if◌then◌else◌}
+use Rattle.laws.specs.Bools.{when◌then◌else◌}
 use Rattle.rules.specs.declared.State.{State}
 use Rattle.rules.specs.Setup.{fresh_state}
 use Rattle.rules.specs.Calls.{Call}
@@ -96,7 +96,7 @@ module _ {bytes entry : List ℕ} {budget : ℕ} {state : State} {used at n : �
 
   -- the budget ends it: of the journal so many records are played, and nothing is put behind
   pub full : budget ≤ used → Ended bytes entry budget state used n out
-  unfolding state_after played_text events_used count_used calls_used close_used close_line if◌then◌else◌
+  unfolding state_after played_text events_used count_used calls_used close_used close_line when◌then◌else◌
   full h =
       let last : length p.done ≡ budget = omega (arith, h, p.within, p.count) in
       let most : budget ≤ length (journal_of bytes).events = rw (p.events, length-append) (omega (arith, last)) in
@@ -110,7 +110,7 @@ module _ {bytes entry : List ℕ} {budget : ℕ} {state : State} {used at n : �
       → read_at bytes at ≡ closed c
       → Put (close_line c) out n out2 n2
       → Ended bytes entry budget state used n2 out2
-  unfolding state_after played_text events_used count_used calls_used close_used if◌then◌else◌
+  unfolding state_after played_text events_used count_used calls_used close_used when◌then◌else◌
   closes {c} h found put =
       let rest = journal_closes bytes at p.left p.enough found in
       let all : (journal_of bytes).events ≡ p.done = p.events ∙ ap (λ j. p.done ++ j.events) rest ∙ append-nil p.done in

@@ -31,7 +31,7 @@ use Rattle.rules.specs.Windows.{move_number, stepped, woken}
 use Rattle.rules.specs.Reporting.{one_less_busy, reported_step, is_death, is_put_off, put_off_entries, put_off_of, kind_after}
 use Rattle.rules.specs.Reporting.{settled, stays, parent_after, departed, reported_at, reporting}
 use Rattle.rules.specs.Calls.{Reply, granted, written, reporting_reply}
-use Rattle.laws.specs.Bools.{if◌then◌else◌}
+use Rattle.laws.specs.Bools.{when◌then◌else◌}
 use Rattle.laws.specs.Chain.{first_along}
 use Rattle.rules.proofs.Shape.{Shaped, present_length, dropped_length, present_below}
 use Rattle.rules.proofs.RangeFacts.{sums_fit_of}
@@ -214,7 +214,7 @@ module _ (s : State) (clock e : ℕ) (outcome : Outcome) (shape : Shaped s) wher
 
     adopted_is : adopted ≡ table_to (parent_after Left) 32
     unfolding parent_after settled woken
-    adopted_is = linked ∙ ap (λ (p : ℕ → Bool). table_to (λ j. if p j then first_along p (at s.jobs.parent) max_jobs (at s.jobs.parent j) else at s.jobs.parent j) 32) stay_reads
+    adopted_is = linked ∙ ap (λ (p : ℕ → Bool). table_to (λ j. when p j then first_along p (at s.jobs.parent) max_jobs (at s.jobs.parent j) else at s.jobs.parent j) 32) stay_reads
 
     queue_is : queue ≡ listed (keep (stays Left) (queue_of s (transport_of s (destination_of s e))))
     queue_is = queued ∙ ap (λ (p : ℕ → Bool). listed (keep p (queue_of s (transport_of s (destination_of s e))))) stay_reads

@@ -8,7 +8,7 @@ use lib.ListN.{length, take, drop, length-append, length-drop}
 use lib.Seq.{length-take-le, take_at}
 use lib.Dec.{leb}
 use borrow.Author.Tests.{leb-true, le-leb}
-use Rattle.laws.specs.Bools.{if◌then◌else◌}
+use Rattle.laws.specs.Bools.{when◌then◌else◌}
 use Rattle.laws.specs.Sequence.{every_in}
 use Rattle.laws.proofs.Bools.{if_cases, and_both, and_left, and_right}
 use Rattle.journal.specs.Records.{Event, end}
@@ -90,7 +90,7 @@ read_calls_lem buffer events = let k = kept buffer events in ap journal_of k.byt
 -- With room for all.
 
 call_takes : (b : Book) (e : Event) → writable e ≡ true → b.used + length (bytes_of e) ≤ length b.buffer → after_call b e ≡ taken_one b e
-unfolding writing_of fitted on_answer if◌then◌else◌
+unfolding writing_of fitted on_answer when◌then◌else◌
 call_takes b e w fits = rw (w, le-leb (b.used + length (bytes_of e)) (length b.buffer) fits) refl
 
 calls_take : (b : Book) (events : List Event) → all_writable events ≡ true → b.used + length (journal_bytes events) ≤ length b.buffer → (written_from b events).taken ≡ b.taken ++ events

@@ -11,7 +11,7 @@ use lib.ListN.{length, drop}
 use lib.Seq.{drop-cons}
 use lib.Dec.{eqb, ltb, leb}
 use borrow.Author.Tests.{ltb-true, ltb-false, leb-true, leb-false, eqb-true, lt-ltb, le-ltb, le-leb}
-use Rattle.laws.specs.Bools.{if◌then◌else◌}
+use Rattle.laws.specs.Bools.{when◌then◌else◌}
 use Rattle.laws.specs.Sequence.{every_in}
 use Rattle.laws.proofs.Bools.{if_cases, and_left, and_right, or_cases, or_right}
 use Rattle.laws.proofs.Sequence.{every_get_or}
@@ -23,7 +23,7 @@ use Rattle.roundtrips.specs.RoundTrips.{is_byte}
 
 -- the lowest group, and the others above it
 groups_more : (most low high : ℕ) → low < 128 → 0 < high → groups_of (suc most) (low + 128 * high) ≡ (128 + low) ∷ groups_of most high
-unfolding groups_of if◌then◌else◌
+unfolding groups_of when◌then◌else◌
 groups_more most low high l h =
     let more : ltb (low + 128 * high) 128 ≡ false = le-ltb (low + 128 * high) 128 (omega arith) in
     let rest : (low + 128 * high) % 128 ≡ low = add-mul-mod_self_left low 128 high ∙ mod-eq_of_lt l in
@@ -64,7 +64,7 @@ module _ (bytes : List ℕ) where
   Grouped most offset (fault k) = Unit
 
   last_stands : (most offset : ℕ) → offset < length bytes → at bytes offset < 128 → Stands offset (groups_of (suc most) (at bytes offset)) (offset + 1)
-  unfolding groups_of if◌then◌else◌
+  unfolding groups_of when◌then◌else◌
   last_stands most offset h l = rw (lt-ltb _ _ l) (byte_stands offset h)
 
   -- a group that is not the last, and what stands behind it

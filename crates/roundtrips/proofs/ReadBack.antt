@@ -9,7 +9,7 @@ use lib.ListN.{length, drop, get_or, length-append, length-drop}
 use lib.Seq.{drop-cons, drop-drop, drop-append_seam, take-append_seam}
 use lib.Dec.{eqb, ltb, leb}
 use borrow.Author.Tests.{leb-true, ltb-true, ltb-false, lt-ltb, le-ltb, le-leb, lt-leb}
-use Rattle.laws.specs.Bools.{if◌then◌else◌}
+use Rattle.laws.specs.Bools.{when◌then◌else◌}
 use Rattle.laws.specs.Sequence.{every_in}
 use Rattle.laws.proofs.Bools.{case_bool, and_left, and_right, or_right}
 use Rattle.laws.proofs.Joined.{and_4}
@@ -69,11 +69,11 @@ module _ (bytes : List ℕ) where
 
     -- the cases of a group
     last_read : (most : ℕ) → b < 128 → groups_at (suc most) bytes offset ≡ number b (offset + 1)
-    unfolding groups_at if◌then◌else◌
+    unfolding groups_at when◌then◌else◌
     last_read most l = rw (lt-leb _ _ from_inside, from_byte, lt-ltb b 128 l) refl
 
     more_read : (most : ℕ) → 128 ≤ b → groups_at (suc most) bytes offset ≡ above (b - 128) (groups_at most bytes (offset + 1))
-    unfolding groups_at if◌then◌else◌
+    unfolding groups_at when◌then◌else◌
     more_read most l = rw (lt-leb _ _ from_inside, from_byte, le-ltb b 128 l) refl
 
   -- the groups of a number, as it is read with at most so many
@@ -106,7 +106,7 @@ module _ (bytes : List ℕ) where
       (λ k. many_read (suc most) x offset rest k h (groups_read most (x / 128) (offset + 1) rest (omega (arith, l, pow-suc 128 (suc most)))))
 
   number_read : (x offset : ℕ) (rest : List ℕ) → small x ≡ true → From offset (number_bytes x ++ rest) → number_at bytes offset ≡ number x (offset + length (number_bytes x))
-  unfolding number_at number_bytes well_written if◌then◌else◌
+  unfolding number_at number_bytes well_written when◌then◌else◌
   number_read x offset rest l h =
       let size : offset + length (groups_of 5 x) - offset ≡ length (groups_of 5 x) = omega arith in
       ap (well_written offset) (groups_read 4 x offset rest (omega (arith, ltb-true x 4_294_967_296 l)) h)
@@ -139,7 +139,7 @@ module _ {bytes rest : List ℕ} where
       → Stands bytes offset (x ∷ numbers) rest
       → ((next : ℕ) → Stands bytes next numbers rest → Reads bytes (after x next) e behind)
       → Reads bytes (field bytes start offset range after) e behind
-  unfolding ranged field_of if◌then◌else◌
+  unfolding ranged field_of when◌then◌else◌
   field_read {offset} {x} start range after l r h reads =
       rw (number_read bytes x offset _ l (stands_number h), r) (reads _ record { left = from_behind bytes offset (number_bytes x) _ (stands_number h) })
 
@@ -150,7 +150,7 @@ module _ {bytes rest : List ℕ} where
       → Stands bytes offset (kind ∷ numbers) rest
       → ((next : ℕ) → Stands bytes next numbers rest → Reads bytes (fields_of bytes offset kind next) e behind)
       → Reads bytes (read_at bytes offset) e behind
-  unfolding read_at number_bytes if◌then◌else◌
+  unfolding read_at number_bytes when◌then◌else◌
   kind_read {offset} {kind} {numbers} r h reads =
       let one = groups_one 4 kind (omega (arith, within_facts {low = 0} {high = 3} {x = kind} r)) in
       rw (lt-leb (length bytes) offset (from_inside bytes offset (stands_number h ∙ ap (λ g. g ++ (numbers_bytes numbers ++ rest)) one)))
@@ -185,7 +185,7 @@ module _ {bytes rest : List ℕ} (start : ℕ) where
       → 0 < length word
       → Stands bytes offset [] (word ++ rest)
       → Reads bytes (name_from bytes start d (length word) offset) (name d word) rest
-  unfolding name_from numbers_bytes if◌then◌else◌
+  unfolding name_from numbers_bytes when◌then◌else◌
   word_read d offset word p h =
       let fits : offset + length word ≤ length bytes = omega (arith, p, length-drop offset bytes, ap length h.left, length-append word rest) in
       rw (le-leb _ _ fits, h.left, take-append_seam word rest) record { next = offset + length word; is = refl; behind = from_behind bytes offset word rest h.left }
@@ -230,7 +230,7 @@ module _ {bytes rest : List ℕ} (start : ℕ) where
       field_read start _ _ c s.2 h (λ g h. dests_read clock t [] dests g s.3 h)))
 
 record_read : (bytes rest : List ℕ) (e : Event) (offset : ℕ) → writable e ≡ true → From bytes offset (bytes_of e ++ rest) → Reads bytes (read_at bytes offset) e rest
-unfolding bytes_of fields_of within if◌then◌else◌
+unfolding bytes_of fields_of within when◌then◌else◌
 record_read bytes rest (name d word) offset w h =
     kind_read refl record { left = h ∙ append_assoc (numbers_bytes (0 ∷ d ∷ length word ∷ [])) word rest } (λ next k. name_read offset d next word w k)
 record_read bytes rest (job clock t dests) offset w h = kind_read refl record { left = h } (λ next k. job_read offset clock t next dests w k)

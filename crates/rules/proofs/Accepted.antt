@@ -7,7 +7,7 @@ use native.Mathlib.Omega.{arith}
 use lib.ListN.{length}
 use lib.Dec.{eqb, ltb}
 use borrow.Author.Tests.{ltb-true, ltb-false, eqb-true, not-false}
-use Rattle.laws.specs.Bools.{if◌then◌else◌}
+use Rattle.laws.specs.Bools.{when◌then◌else◌}
 use Rattle.laws.specs.Sequence.{every_in}
 use Rattle.laws.proofs.Bools.{or_left_false, or_right_false}
 use Rattle.laws.proofs.Joined.{and_3}
@@ -23,13 +23,13 @@ use Rattle.rules.proofs.RangeFacts.{within_facts}
 use Rattle.rules.proofs.Taken.{Passed}
 
 -- a test that refuses with k has not held, where the refusal is 0
-refuses_not : (b : Bool) (k m : ℕ) → (if b then suc k else m) ≡ 0 → b ≡ false
-unfolding if◌then◌else◌
+refuses_not : (b : Bool) (k m : ℕ) → (when b then suc k else m) ≡ 0 → b ≡ false
+unfolding when◌then◌else◌
 refuses_not true k m h = absurd (omega arith)
 refuses_not false k m h = refl
 
-refuses_next : (b : Bool) (k m : ℕ) → (if b then suc k else m) ≡ 0 → m ≡ 0
-unfolding if◌then◌else◌
+refuses_next : (b : Bool) (k m : ℕ) → (when b then suc k else m) ≡ 0 → m ≡ 0
+unfolding when◌then◌else◌
 refuses_next true k m h = absurd (omega arith)
 refuses_next false k m h = h
 

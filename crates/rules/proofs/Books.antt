@@ -11,7 +11,7 @@ use lib.ListN.{length, length-set}
 use lib.Seq.{get_or-set_same, get_or-set_other}
 use lib.Dec.{eqb}
 use borrow.Author.Tests.{eq-eqb, ne_eqb}
-use Rattle.laws.specs.Bools.{if◌then◌else◌}
+use Rattle.laws.specs.Bools.{when◌then◌else◌}
 use Rattle.laws.proofs.Bools.{true_not_false, and_both, and_left_false, and_right_false, if_true, if_false}
 use Rattle.laws.proofs.All.{below_suc}
 use Rattle.laws.proofs.Newest.{newest_is, newest_same, newest_new, newest_old, get_or_old, get_or_new, length_new, set_field}
@@ -76,7 +76,7 @@ module _ {s : State} (t : State) {l : List Account} (b : Books s l) (j n : ℕ) 
   account_other = newest_old (λ a. a.job) no_account l new
 
   still_job : (k i : ℕ) → i < length l
-      → (if is_present t k && eqb (account_of more k) (suc i) then waiting_of t k else 0) ≡ (if is_present s k && eqb (account_of l k) (suc i) then waiting_of s k else 0)
+      → (when is_present t k && eqb (account_of more k) (suc i) then waiting_of t k else 0) ≡ (when is_present s k && eqb (account_of l k) (suc i) then waiting_of s k else 0)
   still_job k i b =
       elim (ℕ_discrete k j) [
         | yes e ↦

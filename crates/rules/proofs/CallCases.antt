@@ -7,7 +7,7 @@ use mathlib.Core.List.{List, [], ◌∷◌, map, foldl, foldl-append}
 use native.Mathlib.Omega.{arith}
 use lib.Dec.{eqb}
 use borrow.Author.Tests.{eqb-false}
-use Rattle.laws.specs.Bools.{if◌then◌else◌}
+use Rattle.laws.specs.Bools.{when◌then◌else◌}
 use Rattle.rules.specs.declared.State.{State}
 use Rattle.rules.specs.declared.Outcome.{Outcome}
 use Rattle.rules.specs.Sizes.{max_entries}
@@ -79,8 +79,8 @@ module _ {ℓ} {A : Type 0} {feed : A → Decision → A} {P : State → A → T
   unless (suc k) buffer r ds f = h
 
   either : (b : Bool) (r q : Reply) (ds es : List Decision) → (b ≡ true → Holds P r.state (foldl feed a ds)) → (b ≡ false → Holds P q.state (foldl feed a es))
-      → Holds P (if b then r else q).state (foldl feed a (if b then ds else es))
-  unfolding if◌then◌else◌
+      → Holds P (when b then r else q).state (foldl feed a (when b then ds else es))
+  unfolding when◌then◌else◌
   either true r q ds es t f = t refl
   either false r q ds es t f = f refl
 

@@ -7,7 +7,7 @@ use mathlib.Core.Logic.{⊎_elim}
 use native.Mathlib.Nat.{le_trans}
 use native.Mathlib.Omega.{arith}
 use lib.ListN.{length}
-use Rattle.laws.specs.Bools.{if◌then◌else◌}
+use Rattle.laws.specs.Bools.{when◌then◌else◌}
 use Rattle.laws.proofs.All.{any_witness}
 use Rattle.ceiling.proofs.Ceilings.{over_ceiling, over_within, over_ceiling_free, pick_ceiling, pick_ceiling_free, blocked_few}
 use Rattle.rules.specs.declared.Setup.{Setup}
@@ -64,7 +64,7 @@ counted_at r t =
 
 -- asking about a present job of a sound state is accepted
 ask_accepted : (s : State) (j : ℕ) → sound s ≡ true → is_present s j ≡ true → (reply_to s (ask j)).says ≡ granted (at s.jobs.overtakers j ∷ [])
-unfolding reply_to unless_refused ask_refusal if◌then◌else◌
+unfolding reply_to unless_refused ask_refusal when◌then◌else◌
 ask_accepted s j h p = rw (h, p) refl
 
 asking_at : {u : Setup} {s : State} {y : Tally} → Reached u s y → (j : ℕ) → is_present s j ≡ true

@@ -11,7 +11,7 @@ use lib.ListN.{length, take, drop, length-append, length-take, length-drop, leng
 use lib.Seq.{get_or-set_same, get_or-set_other, get_or-append-add, get_or-take, get_or-drop}
 use lib.Dec.{ltb}
 use borrow.Author.Tests.{ltb-true, ltb-false, lt-ltb}
-use Rattle.laws.specs.Bools.{if◌then◌else◌}
+use Rattle.laws.specs.Bools.{when◌then◌else◌}
 use Rattle.laws.specs.Range.{count_to, chosen_to, fold_to}
 use Rattle.laws.specs.Sequence.{padded}
 use Rattle.laws.proofs.Bools.{true_not_false, case_bool, if_true, if_false, and_both, and_left, and_right, and_left_false, and_right_false, one_true}
@@ -76,7 +76,7 @@ module _ (p : ℕ → Bool) (n : ℕ) where
 
   -- a column with the first n of these places filled
   pub filled_chosen : (m : ℕ) (f : ℕ → ℕ) (column : List ℕ) → length column ≡ m → n ≤ count_to p m → (x : ℕ) → x < m
-      → at (filled (chosen_to p m) f n column) x ≡ (if among_first p n x then f (count_to p x) else at column x)
+      → at (filled (chosen_to p m) f n column) x ≡ (when among_first p n x then f (count_to p x) else at column x)
   unfolding among_first
   filled_chosen m f column len room x l =
       case_bool (among_first p n x)

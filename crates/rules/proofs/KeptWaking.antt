@@ -7,7 +7,7 @@ use native.Mathlib.Omega.{arith}
 use lib.ListN.{get_or}
 use lib.Dec.{leb}
 use borrow.Author.Tests.{lt-ltb}
-use Rattle.laws.specs.Bools.{if◌then◌else◌}
+use Rattle.laws.specs.Bools.{when◌then◌else◌}
 use Rattle.laws.proofs.Bools.{if_true}
 use Rattle.laws.proofs.Table.{length_table, get_or_table}
 use Rattle.rules.specs.declared.Settings.{Settings}
@@ -38,23 +38,23 @@ woken_still s now d u sound inside live =
 
 -- a dead one may wake
 woken_live : (g : Settings) (now : ℕ) (h : Health) → settings_in_range g ≡ true → ((u : Sums) → h ≡ Live u → LiveSound g u) → (u : Sums) → woken_health g now h ≡ Live u → LiveSound g u
-unfolding woken_health if◌then◌else◌
+unfolding woken_health when◌then◌else◌
 woken_live g now (Live v) r k u e = k u e
 woken_live g now (Dead end) r k u e = go (leb end now) e
   where
     same : (v : Sums) → v ≡ u → LiveSound g v → LiveSound g u
     same v e l = rw e at l
 
-    go : (b : Bool) → (if b then Live (first_state g) else Dead end) ≡ Live u → LiveSound g u
+    go : (b : Bool) → (when b then Live (first_state g) else Dead end) ≡ Live u → LiveSound g u
     go true q = same (first_state g) (cc) (live_first g r)
     go false q = absurd (let z : ◌≡◌ {A = ℕ} 0 1 = cc in omega arith)
 
 woken_dead : (g : Settings) (now : ℕ) (h : Health) (end : ℕ) → woken_health g now h ≡ Dead end → h ≡ Dead end
-unfolding woken_health if◌then◌else◌
+unfolding woken_health when◌then◌else◌
 woken_dead g now (Live v) end e = e
 woken_dead g now (Dead x) end e = go (leb x now) e
   where
-    go : (b : Bool) → (if b then Live (first_state g) else Dead x) ≡ Dead end → Dead x ≡ Dead end
+    go : (b : Bool) → (when b then Live (first_state g) else Dead x) ≡ Dead end → Dead x ≡ Dead end
     go true q = absurd (let z : ◌≡◌ {A = ℕ} 0 1 = cc in omega arith)
     go false q = q
 

@@ -10,7 +10,7 @@ use native.Mathlib.Omega.{arith}
 use lib.ListN.{length}
 use lib.Dec.{eqb}
 use borrow.Author.Tests.{eqb-true, eq-eqb, ne_eqb}
-use Rattle.laws.specs.Bools.{if◌then◌else◌, one}
+use Rattle.laws.specs.Bools.{when◌then◌else◌, one}
 use Rattle.laws.specs.Sequence.{times_in}
 use Rattle.laws.proofs.Bools.{true_not_false, case_bool, one_true, one_false, if_true, if_false}
 use Rattle.laws.proofs.Newest.{newest_is, set_field}
@@ -61,10 +61,10 @@ pub record PutOffFrom (l m : List Account) (jobs : List ℕ) : Type 0 where
   pub taken : (i : ℕ) → (account_at m i).taken ≡ (account_at l i).taken
   pub picked : (i : ℕ) → (account_at m i).picked ≡ (account_at l i).picked
   pub putoff : (i : ℕ) → i < length l
-      → (account_at m i).putoff ≡ (account_at l i).putoff + (if is_newest l i then times_in (account_at l i).job jobs else 0)
+      → (account_at m i).putoff ≡ (account_at l i).putoff + (when is_newest l i then times_in (account_at l i).job jobs else 0)
 
 -- an account that is not j's gets nothing
-not_its : (l : List Account) (j i : ℕ) → account_of l j ≢ suc i → (if is_newest l i then times_in (account_at l i).job (j ∷ []) else 0) ≡ 0
+not_its : (l : List Account) (j i : ℕ) → account_of l j ≢ suc i → (when is_newest l i then times_in (account_at l i).job (j ∷ []) else 0) ≡ 0
 unfolding is_newest
 not_its l j i h =
     case_bool (eqb (account_of l (account_at l i).job) (suc i))
@@ -73,7 +73,7 @@ not_its l j i h =
     ∙ one_false (ne_eqb (account_at l i).job j (λ e. h (ap (account_of l) (sym e) ∙ eqb-true (account_of l (account_at l i).job) (suc i) t))))
     (λ f. if_false _ _ f)
 
-its : (l : List Account) (j i : ℕ) → account_of l j ≡ suc i → (if is_newest l i then times_in (account_at l i).job (j ∷ []) else 0) ≡ 1
+its : (l : List Account) (j i : ℕ) → account_of l j ≡ suc i → (when is_newest l i then times_in (account_at l i).job (j ∷ []) else 0) ≡ 1
 unfolding is_newest account_of
 its l j i h =
     let e = (newest_is (λ a. a.job) no_account l j i h).1 in
@@ -127,9 +127,9 @@ and_then {l} {m} {n} j jobs p q =
           (rw (same, p.job i) at rest));
     }
   where
-    sum_up : (b : Bool) (x y z a c d : ℕ) → z ≡ x + y → c ≡ a + (if b then x else 0) → d ≡ c + (if b then y else 0) → d ≡ a + (if b then z else 0)
-    sum_up true x y z a c d e f g = unfold if◌then◌else◌ in omega arith
-    sum_up false x y z a c d e f g = unfold if◌then◌else◌ in omega arith
+    sum_up : (b : Bool) (x y z a c d : ℕ) → z ≡ x + y → c ≡ a + (when b then x else 0) → d ≡ c + (when b then y else 0) → d ≡ a + (when b then z else 0)
+    sum_up true x y z a c d e f g = unfold when◌then◌else◌ in omega arith
+    sum_up false x y z a c d e f g = unfold when◌then◌else◌ in omega arith
 
 put_off_from : (jobs : List ℕ) (l : List Account) → PutOffFrom l (foldl entered l (map put_off jobs)) jobs
 unfolding entered
@@ -143,9 +143,9 @@ put_off_from [] l =
       putoff = λ i b. none (is_newest l i) (account_at l i).putoff (account_at l i).job;
     }
   where
-    none : (b : Bool) (n x : ℕ) → n ≡ n + (if b then times_in x [] else 0)
-    none true n x = unfold if◌then◌else◌ times_in in omega arith
-    none false n x = unfold if◌then◌else◌ in omega arith
+    none : (b : Bool) (n x : ℕ) → n ≡ n + (when b then times_in x [] else 0)
+    none true n x = unfold when◌then◌else◌ times_in in omega arith
+    none false n x = unfold when◌then◌else◌ in omega arith
 put_off_from (j ∷ jobs) l = and_then j jobs (one_off l j (account_of l j) refl) (put_off_from jobs (booked (account_of l j) 0 1 l))
 
 -- the books after a report
@@ -156,8 +156,8 @@ module _ {s : State} (t : State) {l : List Account} (b : Books s l) (jobs : List
   m = foldl entered l (map put_off jobs)
 
   still_job : (newest here there : Bool) (j : ℕ) → is_present s j ≡ here → is_present t j ≡ there
-      → (if here && newest then waiting_of s j else 0) ≡ (if newest then times_in j jobs else 0) + (if there && newest then waiting_of t j else 0)
-  unfolding if◌then◌else◌
+      → (when here && newest then waiting_of s j else 0) ≡ (when newest then times_in j jobs else 0) + (when there && newest then waiting_of t j else 0)
+  unfolding when◌then◌else◌
   still_job false true true j p q = refl
   still_job false true false j p q = refl
   still_job false false true j p q = refl
@@ -173,7 +173,7 @@ module _ {s : State} (t : State) {l : List Account} (b : Books s l) (jobs : List
       record {
         balance = λ i k.
             (let k' : i < length l = subst (λ n. i < n) o.size k in
-            let split : still_waiting s l i ≡ (if is_newest l i then times_in (account_at l i).job jobs else 0) + still_waiting t m i =
+            let split : still_waiting s l i ≡ (when is_newest l i then times_in (account_at l i).job jobs else 0) + still_waiting t m i =
             unfold still_waiting is_newest in
             (rw (o.job i, o.account (account_at l i).job)
             (still_job (eqb (account_of l (account_at l i).job) (suc i)) (is_present s (account_at l i).job) (is_present t (account_at l i).job) (account_at l i).job refl refl)) in

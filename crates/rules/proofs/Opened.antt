@@ -1,6 +1,6 @@
 -- What a computed example computes with: `unfolding rules` opens every definition that a run of calls meets. To unfold a definition is to unfold
 -- what its own line names, and these are nothing but such lines, one for each file of definitions.
-use Rattle.laws.specs.Bools.{if◌then◌else◌, one}
+use Rattle.laws.specs.Bools.{when◌then◌else◌, one}
 use Rattle.laws.specs.Range.{all_to, any_to, count_to, first_to, chosen_to, table_to, fold_to, sum_to, last_to}
 use Rattle.laws.specs.Sequence.{keep, holds, first_of, up_to, insert_before, move_before, padded, every_in, count_in, holds_each_once, never_falling, firsts_to, times_in}
 use Rattle.laws.specs.Chain.{along_chain, ends_in, first_along}
@@ -29,7 +29,7 @@ use Rattle.rules.specs.Recovery.{is_report, is_success, counts, reports_in, in_a
 use Rattle.rules.specs.Examples.{shown, window_shown, windows_failing, succeeded, served, exact_at}
 
 unfoldable pub ranges : Unit {0}
-unfolding if◌then◌else◌ one all_to any_to count_to first_to chosen_to table_to fold_to sum_to last_to
+unfolding when◌then◌else◌ one all_to any_to count_to first_to chosen_to table_to fold_to sum_to last_to
 ranges = tt
 
 unfoldable pub sequences : Unit {0}

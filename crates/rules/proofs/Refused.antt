@@ -8,7 +8,7 @@ use native.Mathlib.Nat.{not-suc-le-zero}
 use native.Mathlib.Omega.{arith}
 use lib.ListN.{length}
 use lib.Dec.{eqb, ltb}
-use Rattle.laws.specs.Bools.{if◌then◌else◌}
+use Rattle.laws.specs.Bools.{when◌then◌else◌}
 use Rattle.laws.specs.Sequence.{every_in}
 use Rattle.rules.specs.declared.State.{State}
 use Rattle.rules.specs.Setup.{within}
@@ -28,8 +28,8 @@ pub record Unchanged (s : State) (lent : List ℕ) (r : Reply) : Type 0 where
 
 -- an accepted call's reply has no refusal
 
-either_accepted : (b : Bool) (x y : Reply) → x.says.refusal ≡ 0 → y.says.refusal ≡ 0 → (if b then x else y).says.refusal ≡ 0
-unfolding if◌then◌else◌
+either_accepted : (b : Bool) (x y : Reply) → x.says.refusal ≡ 0 → y.says.refusal ≡ 0 → (when b then x else y).says.refusal ≡ 0
+unfolding when◌then◌else◌
 either_accepted true x y h k = h
 either_accepted false x y h k = k
 
@@ -62,13 +62,13 @@ refused_unchanged s call h =
     unless_unchanged (refusal_of s call) s (lent_to call) (accepted s call) (subst (λ k. 1 ≤ k) (refusal_answered s call) h)
 
 -- a refusal of a sound state comes from the later tests
-later : (s : State) (k : ℕ) → sound s ≡ true → (if not (sound s) then 1 else k) ≡ k
-unfolding if◌then◌else◌
+later : (s : State) (k : ℕ) → sound s ≡ true → (when not (sound s) then 1 else k) ≡ k
+unfolding when◌then◌else◌
 later s k h = rw h
 
 -- a list of later tests never gives 1
-pub not_one : (b : Bool) (k m : ℕ) → k ≢ 1 → m ≢ 1 → (if b then k else m) ≢ 1
-unfolding if◌then◌else◌
+pub not_one : (b : Bool) (k m : ℕ) → k ≢ 1 → m ≢ 1 → (when b then k else m) ≢ 1
+unfolding when◌then◌else◌
 not_one true k m h1 h2 = h1
 not_one false k m h1 h2 = h2
 

@@ -4,7 +4,7 @@ use mathlib.Core.Path.{◌≡◌, refl, sym, ap}
 use mathlib.Core.Bool.{Bool, true, false, not}
 use mathlib.Core.List.{List}
 use native.Mathlib.Nat.{suc-ne-zero}
-use Rattle.laws.specs.Bools.{if◌then◌else◌}
+use Rattle.laws.specs.Bools.{when◌then◌else◌}
 use Rattle.laws.proofs.Bools.{true_not_false}
 use Rattle.rules.specs.declared.Setup.{Setup}
 use Rattle.rules.specs.declared.State.{State}
@@ -25,8 +25,8 @@ accepting zero s buffer x r e h = h
 accepting (suc n) s buffer x r e h = absurd (suc-ne-zero n e)
 
 -- the first test of every call
-first_test : (b : Bool) (k : ℕ) → b ≡ false → (if not b then 1 else k) ≡ 1
-unfolding if◌then◌else◌
+first_test : (b : Bool) (k : ℕ) → b ≡ false → (when not b then 1 else k) ≡ 1
+unfolding when◌then◌else◌
 first_test b k e = rw e
 
 pub refusal_unsound : (s : State) (call : Call) → sound s ≡ false → refusal_of s call ≡ 1
@@ -46,7 +46,7 @@ bad_clock_of s (Call.ask j) = false
 bad_clock_of s (Call.board buffer) = false
 
 refusal_clock : (s : State) (call : Call) → sound s ≡ true → bad_clock_of s call ≡ true → refusal_of s call ≡ 3
-unfolding job_refusal pick_refusal report_refusal if◌then◌else◌
+unfolding job_refusal pick_refusal report_refusal when◌then◌else◌
 refusal_clock s (Call.job now t dests list) h b = rw (h, b) refl
 refusal_clock s (Call.pick now) h b = rw (h, b) refl
 refusal_clock s (Call.report now e ticket outcome list) h b = rw (h, b) refl
@@ -70,5 +70,5 @@ module _ (s : State) (call : Call) where
 
 -- an accepted set-up starts from its fresh state
 pub start_is : (u : Setup) → setup_in_range u ≡ true → (setup_reply u).state ≡ fresh_state u
-unfolding setup_reply setup_refusal unless_refused if◌then◌else◌
+unfolding setup_reply setup_refusal unless_refused when◌then◌else◌
 start_is u h = rw h refl

@@ -7,7 +7,7 @@ use native.Mathlib.Omega.{arith}
 use native.Mathlib.Decide.{ℕ_discrete}
 use lib.Dec.{eqb}
 use borrow.Author.Tests.{eqb-true, eq-eqb, ne_eqb}
-use Rattle.laws.specs.Bools.{if◌then◌else◌}
+use Rattle.laws.specs.Bools.{when◌then◌else◌}
 use Rattle.laws.proofs.Bools.{true_not_false, case_bool, false_of, bool_same, and_both, and_left, and_right, and_left_false, and_right_false}
 use Rattle.laws.proofs.Bools.{if_true, if_false, eqb_self}
 use Rattle.laws.proofs.Joined.{and_3}
@@ -56,7 +56,7 @@ module _ (w : State) (e : ℕ) (health : Health) (died : Bool) (shaped : Shaped 
   unfolding settled kind_after
   settled_self =
       record {
-        kind = settled_kind e inside ∙ if_true 0 (if is_put_off w died (destination_of w e) e then 0 else at w.entries.kind e) (eqb_self e);
+        kind = settled_kind e inside ∙ if_true 0 (when is_put_off w died (destination_of w e) e then 0 else at w.entries.kind e) (eqb_self e);
         job = refl;
         destination = refl;
       }
@@ -66,7 +66,7 @@ module _ (w : State) (e : ℕ) (health : Health) (died : Bool) (shaped : Shaped 
   settled_off i l ne h =
       record {
         kind =
-            settled_kind i l ∙ if_false 0 (if is_put_off w died (destination_of w e) i then 0 else at w.entries.kind i) (ne_eqb i e ne)
+            settled_kind i l ∙ if_false 0 (when is_put_off w died (destination_of w e) i then 0 else at w.entries.kind i) (ne_eqb i e ne)
             ∙ if_true 0 (at w.entries.kind i) h;
         job = refl;
         destination = refl;
@@ -77,7 +77,7 @@ module _ (w : State) (e : ℕ) (health : Health) (died : Bool) (shaped : Shaped 
   settled_same i l ne h =
       record {
         kind =
-            settled_kind i l ∙ if_false 0 (if is_put_off w died (destination_of w e) i then 0 else at w.entries.kind i) (ne_eqb i e ne)
+            settled_kind i l ∙ if_false 0 (when is_put_off w died (destination_of w e) i then 0 else at w.entries.kind i) (ne_eqb i e ne)
             ∙ if_false 0 (at w.entries.kind i) h;
         job = refl;
         destination = refl;

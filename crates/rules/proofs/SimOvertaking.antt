@@ -6,7 +6,7 @@ use native.Mathlib.Nat.{suc_inj, lt-suc_self, lt_trans, suc-ne-zero}
 use native.Mathlib.Omega.{arith}
 use lib.ListN.{length, length-set}
 use lib.Seq.{get_or-set_same, get_or-set_other}
-use Rattle.laws.specs.Bools.{if◌then◌else◌}
+use Rattle.laws.specs.Bools.{when◌then◌else◌}
 use Rattle.laws.specs.Chain.{along_chain}
 use Rattle.laws.specs.Onto.{on_chain, near}
 use Rattle.laws.proofs.Bools.{if_true}
@@ -84,7 +84,7 @@ module _ {u : Setup} {w : State} {y : Tally} {g : Columns} (m : Sim u w y g) (sh
     whole_walk = along_enough (parent_of w) (added_to k) 32 _ (suc b) w.jobs.overtakers (omega arith) (chain_ends w shaped sound b here)
 
     state_walk : (z : ℕ) → at (along_chain (parent_of w) (added_to k) 32 (suc b) w.jobs.overtakers) z
-        ≡ (if on_chain (parent_of w) 32 (suc b) z then min (at w.jobs.overtakers z + k) sum_limit else at w.jobs.overtakers z)
+        ≡ (when on_chain (parent_of w) 32 (suc b) z then min (at w.jobs.overtakers z + k) sum_limit else at w.jobs.overtakers z)
     unfolding added_to
     state_walk z =
         along_at (parent_of w) job_depth (added_to k) at (λ v. min (v + k) sum_limit) (λ z. is_present w z ≡ true) (λ l. length l ≡ 32)
@@ -94,7 +94,7 @@ module _ {u : Setup} {w : State} {y : Tally} {g : Columns} (m : Sim u w y g) (sh
 
     -- The walk up the names.
 
-    column_walk : (i : ℕ) → g'.over i ≡ (if on_chain g.names g.rows (suc bi) i then g.over i + k else g.over i)
+    column_walk : (i : ℕ) → g'.over i ≡ (when on_chain g.names g.rows (suc bi) i then g.over i + k else g.over i)
     column_walk i =
         ap (λ f. f i) (over_preempt m.inv.forest m.inv.overtaken may)
         ∙ along_at g.names g.depth (overtake k) (λ f i. f i) (λ v. v + k) (λ i. i < g.rows) (λ f. Unit {0})
@@ -123,6 +123,6 @@ module _ {u : Setup} {w : State} {y : Tally} {g : Columns} (m : Sim u w y g) (sh
         ∙ sym (column_walk i)
       where
         both : (on on' : Bool) {v v' : ℕ} → on ≡ on' → v ≡ v' → (on' ≡ true → v' + k ≤ sum_limit)
-            → (if on then min (v + k) sum_limit else v) ≡ (if on' then v' + k else v')
-        both on true e q f = rw e (rw q (unfold if◌then◌else◌ in min_eq (f refl)))
-        both on false e q f = rw e (unfold if◌then◌else◌ in q)
+            → (when on then min (v + k) sum_limit else v) ≡ (when on' then v' + k else v')
+        both on true e q f = rw e (rw q (unfold when◌then◌else◌ in min_eq (f refl)))
+        both on false e q f = rw e (unfold when◌then◌else◌ in q)

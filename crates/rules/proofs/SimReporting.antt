@@ -6,7 +6,7 @@ use native.Mathlib.Nat.{suc_inj}
 use native.Mathlib.Omega.{arith}
 use lib.ListN.{get_or}
 use lib.Dec.{eqb}
-use Rattle.laws.specs.Bools.{if◌then◌else◌}
+use Rattle.laws.specs.Bools.{when◌then◌else◌}
 use Rattle.laws.specs.Chain.{ends_in, first_along}
 use Rattle.laws.specs.Onto.{near}
 use Rattle.laws.specs.Order.{Before}
@@ -47,7 +47,7 @@ module _ {u : Setup} {w : State} {y : Tally} {g : Columns} (m : Sim u w y g) (no
 
   -- what waits afterwards, by row
   pub left : ℕ → ℕ
-  left i = if present_row w y.rows i then waiting_of after (row_at y.rows i).job else 0
+  left i = when present_row w y.rows i then waiting_of after (row_at y.rows i).job else 0
 
   left_of : (j i : ℕ) → is_present w j ≡ true → row_of y.rows j ≡ suc i → left i ≡ waiting_of after j
   unfolding left

@@ -9,7 +9,7 @@ use lib.ListN.{length, set}
 use lib.Seq.{get_or-set_same, get_or-set_other}
 use lib.Dec.{eqb}
 use borrow.Author.Tests.{eqb-true, eq-eqb}
-use Rattle.laws.specs.Bools.{if◌then◌else◌}
+use Rattle.laws.specs.Bools.{when◌then◌else◌}
 use Rattle.laws.specs.Range.{sum_to}
 use Rattle.laws.proofs.Bools.{and_both, and_left, and_right}
 use Rattle.laws.proofs.Newest.{set_field}
@@ -41,8 +41,8 @@ pub sum_on_lem : {u : Setup} {s : State} {y : Tally} {g : Columns} → Sim u s y
     → ((i : ℕ) → i < g.rows → f (row_at y.rows i) ≡ col i) → sum_on t f y.rows ≡ of_transport g t col g.rows
 unfolding sum_on
 sum_on_lem {y = y} {g = g} m t f col h =
-    ap (sum_to (λ i. if eqb (row_at y.rows i).transport t then f (row_at y.rows i) else 0)) m.rows
-    ∙ sum_eq (λ i. if eqb (row_at y.rows i).transport t then f (row_at y.rows i) else 0) (λ i. if eqb (g.transport i) t then col i else 0) g.rows
+    ap (sum_to (λ i. when eqb (row_at y.rows i).transport t then f (row_at y.rows i) else 0)) m.rows
+    ∙ sum_eq (λ i. when eqb (row_at y.rows i).transport t then f (row_at y.rows i) else 0) (λ i. when eqb (g.transport i) t then col i else 0) g.rows
     (λ i l. rw ((m.row i l).transport, h i l) refl)
 
 -- the row of a present job is a present row

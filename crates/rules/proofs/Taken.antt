@@ -9,7 +9,7 @@ use lib.ListN.{length}
 use lib.Seq.{get_or-set_same, get_or-set_other}
 use lib.Dec.{eqb, ltb}
 use borrow.Author.Tests.{ltb-true, ltb-false, eqb-true, not-true, not-false}
-use Rattle.laws.specs.Bools.{if◌then◌else◌}
+use Rattle.laws.specs.Bools.{when◌then◌else◌}
 use Rattle.laws.specs.Range.{all_to, count_to}
 use Rattle.laws.specs.Sequence.{every_in}
 use Rattle.laws.proofs.Bools.{true_not_false, and_left, and_right, and_false_cases, not_is_true}
@@ -149,16 +149,16 @@ pub record NewJob (r : State) (j t now : ℕ) (kept : List ℕ) : Type 0 where
 module _ (w : State) (j t now : ℕ) (kept : List ℕ) (shaped : Shaped w) (sound : Sound w) (fits : Fits w j t kept) where
   -- The new entries' columns.
 
-  pub taken_kind : (e : ℕ) → e < max_entries → at (taken w j t now kept).entries.kind e ≡ (if is_new w kept e then 1 else at w.entries.kind e)
+  pub taken_kind : (e : ℕ) → e < max_entries → at (taken w j t now kept).entries.kind e ≡ (when is_new w kept e then 1 else at w.entries.kind e)
   unfolding taken free_places is_new
   taken_kind = filled_chosen (is_free w) (length kept) max_entries (λ i. 1) w.entries.kind shaped.entries.kind fits.room
 
-  pub taken_job : (e : ℕ) → e < max_entries → job_of (taken w j t now kept) e ≡ (if is_new w kept e then j else job_of w e)
+  pub taken_job : (e : ℕ) → e < max_entries → job_of (taken w j t now kept) e ≡ (when is_new w kept e then j else job_of w e)
   unfolding taken free_places is_new
   taken_job = filled_chosen (is_free w) (length kept) max_entries (λ i. j) w.entries.job shaped.entries.job fits.room
 
   pub taken_destination : (e : ℕ) → e < max_entries
-      → destination_of (taken w j t now kept) e ≡ (if is_new w kept e then at kept (place_in w e) else destination_of w e)
+      → destination_of (taken w j t now kept) e ≡ (when is_new w kept e then at kept (place_in w e) else destination_of w e)
   unfolding taken free_places is_new place_in
   taken_destination =
       filled_chosen (is_free w) (length kept) max_entries (at kept) w.entries.destination shaped.entries.destination fits.room

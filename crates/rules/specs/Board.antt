@@ -1,6 +1,6 @@
 -- Document 01, "Board text", as bytes.
 use Rattle.std.specs.Prelude.{ℕ, zero, suc, ◌+◌, ◌/◌, ◌%◌, List, [], ◌∷◌, ◌++◌, get_or, ltb}
-use Rattle.laws.specs.Bools.{if◌then◌else◌}
+use Rattle.laws.specs.Bools.{when◌then◌else◌}
 use Rattle.rules.specs.declared.Health.{Health}
 use Rattle.rules.specs.declared.Health.TheVariants.{Live, Dead}
 use Rattle.rules.specs.declared.Destination.{Destination}
@@ -10,7 +10,7 @@ use Rattle.rules.specs.State.{at, zero_destination}
 -- "Numbers are decimal without leading zeros": those of at most n + 1 digits
 unfoldable pub decimal_in : ℕ → ℕ → List ℕ
 decimal_in zero x = (48 + x % 10) ∷ []
-decimal_in (suc n) x = if ltb x 10 then (48 + x) ∷ [] else decimal_in n (x / 10) ++ ((48 + x % 10) ∷ [])
+decimal_in (suc n) x = when ltb x 10 then (48 + x) ∷ [] else decimal_in n (x / 10) ++ ((48 + x % 10) ∷ [])
 
 -- a number below 2^64 has at most 20 digits
 unfoldable pub decimal : ℕ → List ℕ

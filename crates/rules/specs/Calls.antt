@@ -1,7 +1,7 @@
 -- Each call whole: from the state and all arguments, lent buffers' contents among them, to what it answers, the closing state and the closing
 -- buffer; and beside that what the rules decided.
 use Rattle.std.specs.Prelude.{ℕ, zero, suc, List, [], ◌∷◌, ◌++◌, map, length, drop, eqb}
-use Rattle.laws.specs.Bools.{if◌then◌else◌}
+use Rattle.laws.specs.Bools.{when◌then◌else◌}
 use Rattle.rules.specs.declared.Setup.{Setup}
 use Rattle.rules.specs.declared.State.{State}
 use Rattle.rules.specs.declared.Outcome.{Outcome}
@@ -30,7 +30,7 @@ pub record Reply : Type 0 where
 
 -- an outcome that is told by a number: "0 success or 1 failure" (A1)
 unfoldable pub outcome_of : ℕ → Outcome
-outcome_of n = if eqb n 1 then Outcome.Failure else Outcome.Success
+outcome_of n = when eqb n 1 then Outcome.Failure else Outcome.Success
 
 -- a call's arguments
 pub data Call : Type 0 where
@@ -87,7 +87,7 @@ setup_reply u = unless_refused (setup_refusal u) zero_state [] (record { says = 
 -- count is answered."
 unfoldable pub taking_reply : State → ℕ → ℕ → List ℕ → List ℕ → Reply
 taking_reply w now t dests list =
-    if eqb (n_of w dests) 0
+    when eqb (n_of w dests) 0
     then record {
       says = granted (length (put_off_positions w dests) ∷ []);
       state = w;
@@ -112,7 +112,7 @@ picking_reply w p =
 -- of the state after waking
 unfoldable pub after_pick : State → ℕ → Reply
 after_pick w now =
-    if finds w then picking_reply w (picking w now) else record { says = granted (0 ∷ []); state = w; buffer = [] }
+    when finds w then picking_reply w (picking w now) else record { says = granted (0 ∷ []); state = w; buffer = [] }
 
 -- A report. "A report answers how many were put off", and hands on why the destination's number moved (A7).
 unfoldable pub reporting_reply : Reported → List ℕ → Reply
@@ -165,13 +165,13 @@ pub data Decision : Type 0 where
   put_off : ℕ → Decision
 
 unfoldable pub taking_decisions : State → ℕ → List ℕ → List Decision
-taking_decisions w t dests = if eqb (n_of w dests) 0 then [] else took (new_number w) t (n_of w dests) ∷ []
+taking_decisions w t dests = when eqb (n_of w dests) 0 then [] else took (new_number w) t (n_of w dests) ∷ []
 
 abbrev pub picking_decision : Found → Decision
 picking_decision f = picked f.job f.passed f.past f.preempted
 
 unfoldable pub pick_decisions : State → ℕ → List Decision
-pick_decisions w now = if finds w then picking_decision (picking w now).found ∷ [] else []
+pick_decisions w now = when finds w then picking_decision (picking w now).found ∷ [] else []
 
 -- what happened in an accepted call, in order
 abbrev pub decided : State → Call → List Decision

@@ -1,7 +1,7 @@
 -- "Also, from the history: entries taken to wait = picked + put off later + still waiting": a row for each job ever taken, fed decisions.
 use Rattle.std.specs.Prelude.{ℕ, zero, suc, ◌+◌, ◌&&◌, get_or, set, eqb}
 use mathlib.Core.List.{List, [], ◌∷◌, ◌++◌, foldl}
-use Rattle.laws.specs.Bools.{if◌then◌else◌}
+use Rattle.laws.specs.Bools.{when◌then◌else◌}
 use Rattle.laws.specs.Newest.{newest}
 use Rattle.rules.specs.declared.Setup.{Setup}
 use Rattle.rules.specs.declared.State.{State}
@@ -51,6 +51,6 @@ accounts_of u calls = foldl entered [] (decisions_from (fresh_state u) calls)
 -- what of account i still waits: of the newest account of a present job its waiting entries, else none
 unfoldable pub still_waiting : State → List Account → ℕ → ℕ
 still_waiting s l i =
-    if is_present s (account_at l i).job && eqb (account_of l (account_at l i).job) (suc i)
+    when is_present s (account_at l i).job && eqb (account_of l (account_at l i).job) (suc i)
     then waiting_of s (account_at l i).job
     else 0

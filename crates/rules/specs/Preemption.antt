@@ -1,6 +1,6 @@
 -- Document 01, "Picking and preemption", second part: when a job preempts the current one, and what that changes.
 use Rattle.std.specs.Prelude.{ℕ, zero, suc, ◌+◌, ◌-◌, ◌*◌, ◌/◌, min, Bool, true, false, not, ◌&&◌, List, length, set, ℤ, pos, negsuc, ◌-ℤ◌, eqb, ltb, leb}
-use Rattle.laws.specs.Bools.{if◌then◌else◌}
+use Rattle.laws.specs.Bools.{when◌then◌else◌}
 use Rattle.laws.specs.Range.{count_to, first_to, fold_to}
 use Rattle.laws.specs.Chain.{along_chain}
 use Rattle.laws.specs.Sequence.{move_before}
@@ -56,8 +56,8 @@ beats s now x b = ltb (age_of s now b * waiting_of s x) (age_of s now x * waitin
 
 -- the better of the best so far, a link, and x, of a higher arrival rank: "equal ones, the lower arrival rank"
 unfoldable pub better : State → ℕ → ℕ → ℕ → ℕ → ℕ → ℕ
-better s now t y zero x = if is_candidate s t y x then suc x else 0
-better s now t y (suc b) x = if is_candidate s t y x && beats s now x b then suc x else suc b
+better s now t y zero x = when is_candidate s t y x then suc x else 0
+better s now t y (suc b) x = when is_candidate s t y x && beats s now x b then suc x else suc b
 
 -- the link to the best candidate of the ranks below n; 0 where there is none
 unfoldable pub best_before : State → ℕ → ℕ → ℕ → ℕ → ℕ
@@ -113,7 +113,7 @@ is_preempted s now t y =
 
 -- the link to the job that preempts the current job y; 0 where none does
 unfoldable pub preemptor_of : State → ℕ → ℕ → ℕ → ℕ
-preemptor_of s now t y = if is_preempted s now t y then best_candidate s now t y else 0
+preemptor_of s now t y = when is_preempted s now t y then best_candidate s now t y else 0
 
 -- "A sum stops at 65,535"
 unfoldable pub added_to : ℕ → ℕ → List ℕ → List ℕ

@@ -1,6 +1,6 @@
 -- Document 01, "Refusal numbers": each call's refusal, tested in the order of the table; 0 for none.
 use Rattle.std.specs.Prelude.{ℕ, Bool, not, ◌&&◌, ◌||◌, List, length, eqb, ltb}
-use Rattle.laws.specs.Bools.{if◌then◌else◌}
+use Rattle.laws.specs.Bools.{when◌then◌else◌}
 use Rattle.laws.specs.Range.{all_to, count_to}
 use Rattle.laws.specs.Sequence.{every_in}
 use Rattle.rules.specs.declared.Setup.{Setup}
@@ -35,47 +35,47 @@ is_busy_with s e ticket = ltb e max_entries && is_busy s e && eqb (at s.entries.
 
 -- "set-up 2"
 unfoldable pub setup_refusal : Setup → ℕ
-setup_refusal u = if setup_in_range u then 0 else 2
+setup_refusal u = when setup_in_range u then 0 else 2
 
 -- "job 1, 3 to 8, 10"; 7 and 8 read the state after waking
 unfoldable pub job_refusal : State → ℕ → ℕ → List ℕ → List ℕ → ℕ
 job_refusal s now t dests list =
-    if not (sound s) then 1
-    else if bad_clock s now then 3
-    else if not (ltb t s.setup.transports) then 4
-    else if not (within 1 max_length (length dests)) then 5
-    else if not (every_in (is_destination_on s t) dests) then 6
-    else if lacks_number (woken s now) dests then 7
-    else if lacks_places (woken s now) dests then 8
-    else if ltb (length list) (length dests) then 10
+    when not (sound s) then 1
+    else when bad_clock s now then 3
+    else when not (ltb t s.setup.transports) then 4
+    else when not (within 1 max_length (length dests)) then 5
+    else when not (every_in (is_destination_on s t) dests) then 6
+    else when lacks_number (woken s now) dests then 7
+    else when lacks_places (woken s now) dests then 8
+    else when ltb (length list) (length dests) then 10
     else 0
 
 -- "pick 1, 3"
 unfoldable pub pick_refusal : State → ℕ → ℕ
 pick_refusal s now =
-    if not (sound s) then 1
-    else if bad_clock s now then 3
+    when not (sound s) then 1
+    else when bad_clock s now then 3
     else 0
 
 -- "report 1, 3, 9, 10"
 unfoldable pub report_refusal : State → ℕ → ℕ → ℕ → List ℕ → ℕ
 report_refusal s now e ticket list =
-    if not (sound s) then 1
-    else if bad_clock s now then 3
-    else if not (is_busy_with s e ticket) then 9
-    else if ltb (length list) max_entries then 10
+    when not (sound s) then 1
+    else when bad_clock s now then 3
+    else when not (is_busy_with s e ticket) then 9
+    else when ltb (length list) max_entries then 10
     else 0
 
 -- "asking about a job 1, 11"
 unfoldable pub ask_refusal : State → ℕ → ℕ
 ask_refusal s j =
-    if not (sound s) then 1
-    else if not (is_present s j) then 11
+    when not (sound s) then 1
+    else when not (is_present s j) then 11
     else 0
 
 -- "board text 1, 10"
 unfoldable pub board_refusal : State → List ℕ → ℕ
 board_refusal s buffer =
-    if not (sound s) then 1
-    else if ltb (length buffer) (length (board_text s)) then 10
+    when not (sound s) then 1
+    else when ltb (length buffer) (length (board_text s)) then 10
     else 0

@@ -1,6 +1,6 @@
 -- Document 01, "Windows", last part: what a report does after the destination's step. The state here is the one after waking.
 use Rattle.std.specs.Prelude.{ℕ, ◌+◌, ◌-◌, Bool, true, false, ◌&&◌, List, set, eqb}
-use Rattle.laws.specs.Bools.{if◌then◌else◌}
+use Rattle.laws.specs.Bools.{when◌then◌else◌}
 use Rattle.laws.specs.Range.{any_to, count_to, chosen_to, table_to}
 use Rattle.laws.specs.Chain.{first_along}
 use Rattle.laws.specs.Sequence.{keep}
@@ -42,7 +42,7 @@ put_off_of s died d j = count_to (λ e. is_put_off s died d e && eqb (job_of s e
 
 -- "the reported entry is free"
 unfoldable pub kind_after : State → Bool → ℕ → ℕ → ℕ → ℕ
-kind_after s died d e i = if eqb i e then 0 else if is_put_off s died d i then 0 else at s.entries.kind i
+kind_after s died d e i = when eqb i e then 0 else when is_put_off s died d i then 0 else at s.entries.kind i
 
 abbrev pub one_less_busy : Busy → ℕ → ℕ → Busy
 one_less_busy b t d =
@@ -69,7 +69,7 @@ nearest_staying s j = first_along (stays s) (parent_of s) max_jobs (parent_of s 
 
 -- "Its children pass to the nearest ancestor that stays, or to none"
 unfoldable pub parent_after : State → ℕ → ℕ
-parent_after s j = if stays s j then nearest_staying s j else parent_of s j
+parent_after s j = when stays s j then nearest_staying s j else parent_of s j
 
 -- the jobs that do not stay have left. A report ends entries of one transport t only, so they are t's; "ranks close up when one leaves"
 unfoldable pub departed : State → ℕ → State

@@ -1,6 +1,6 @@
 -- Document 01, "Sizes", "Set-up ranges": what a site may give, the state that it starts from, and the state of all zeros.
 use Rattle.std.specs.Prelude.{ℕ, ◌*◌, Bool, false, ◌&&◌, ◌||◌, List, get_or, replicate, eqb, ltb, leb}
-use Rattle.laws.specs.Bools.{if◌then◌else◌}
+use Rattle.laws.specs.Bools.{when◌then◌else◌}
 use Rattle.laws.specs.Range.{all_to, table_to}
 use Rattle.rules.specs.declared.Feedback.{Feedback}
 use Rattle.rules.specs.declared.Settings.{Settings}
@@ -122,7 +122,7 @@ zero_state = empty_state zero_setup (replicate max_destinations zero_destination
 -- a destination of the set-up in its first state; the places past them are zeros
 unfoldable pub first_destination : Setup → ℕ → Destination
 first_destination u d =
-    if ltb d u.destinations
+    when ltb d u.destinations
     then record { health = Live (first_state (settings_in u d)) }
     else zero_destination
 

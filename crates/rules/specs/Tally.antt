@@ -1,6 +1,6 @@
 -- Document 01, "The tally of demand 3", with A13's P: kept beside the rules, fed their decisions, reading nothing of a state.
 use Rattle.std.specs.Prelude.{ℕ, zero, suc, ◌+◌, List, [], ◌∷◌, ◌++◌, length, get_or, set, eqb}
-use Rattle.laws.specs.Bools.{if◌then◌else◌}
+use Rattle.laws.specs.Bools.{when◌then◌else◌}
 use Rattle.laws.specs.Range.{sum_to}
 use Rattle.laws.specs.Newest.{newest}
 use Rattle.laws.specs.Chain.{along_chain}
@@ -66,7 +66,7 @@ linked_row rows (suc i) = row_at rows i
 
 -- a number of a row, summed over the rows of transport t
 unfoldable pub sum_on : ℕ → (Row → ℕ) → List Row → ℕ
-sum_on t f rows = sum_to (λ i. if eqb (row_at rows i).transport t then f (row_at rows i) else 0) (length rows)
+sum_on t f rows = sum_to (λ i. when eqb (row_at rows i).transport t then f (row_at rows i) else 0) (length rows)
 
 -- "a new row with number, transport, n, overtakers 0, and N"
 unfoldable pub new_row : List Row → ℕ → ℕ → ℕ → Row

@@ -1,6 +1,6 @@
 -- Document 01, "Windows" and the waking of "Time and tickets".
 use Rattle.std.specs.Prelude.{ℕ, ◌+◌, ◌-◌, ◌*◌, ◌/◌, min, max, Bool, List, get_or, eqb, ltb, leb}
-use Rattle.laws.specs.Bools.{if◌then◌else◌}
+use Rattle.laws.specs.Bools.{when◌then◌else◌}
 use Rattle.laws.specs.Range.{greatest_to, table_to}
 use Rattle.laws.specs.Fractions.{rounded_up}
 use Rattle.rules.specs.declared.Feedback.{Feedback}
@@ -28,9 +28,9 @@ root N = greatest_to (λ R. leb (R * R * N) (U * U)) U
 -- "p·R/100 rounded down" (A6)
 unfoldable pub feedback : Feedback → ℕ → ℕ
 feedback f window =
-    if eqb f.form 0
+    when eqb f.form 0
     then f.percent * U / 100
-    else (if eqb f.form 1 then rounded_up (f.percent * U) (100 * window) else f.percent * root window / 100)
+    else (when eqb f.form 1 then rounded_up (f.percent * U) (100 * window) else f.percent * root window / 100)
 
 -- "cohorts grow by U/window", "rounded up to a whole part" (A6): the share of a cohort that one failure is
 unfoldable pub cohort_share : ℕ → ℕ
@@ -47,14 +47,14 @@ is_dead_at g cohorts = leb (cohort_bound g) cohorts
 -- "success grows by the feedback; at U or more, U is taken off, window grows by 1, failure becomes 0; a window over the limit is set to it"
 unfoldable pub raised : Settings → Sums → ℕ → Sums
 raised g u success =
-    if leb U success
+    when leb U success
     then record { window = min (u.window + 1) g.limit; success = success - U; failure = 0; cohorts = 0 }
     else record { window = u.window; success = success; failure = u.failure; cohorts = 0 }
 
 -- "Live: cohorts 0. Then, only if window < busy + initial, busy still counting this delivery: success grows"
 unfoldable pub live_after_success : Settings → ℕ → Sums → Sums
 live_after_success g busy u =
-    if ltb u.window (busy + g.initial)
+    when ltb u.window (busy + g.initial)
     then raised g u (u.success + feedback g.positive u.window)
     else record { window = u.window; success = u.success; failure = u.failure; cohorts = 0 }
 
@@ -66,14 +66,14 @@ after_success g busy (Dead end) = Live (first_state g)
 -- "failure falls by the feedback of the old window; below 0, U is added, window falls by 1, success becomes 0; a window under 1 is set to 1"
 unfoldable pub lowered : Sums → ℕ → ℕ → Sums
 lowered u fall cohorts =
-    if ltb u.failure fall
+    when ltb u.failure fall
     then record { window = max (u.window - 1) 1; success = 0; failure = u.failure + U - fall; cohorts = cohorts }
     else record { window = u.window; success = u.success; failure = u.failure - fall; cohorts = cohorts }
 
 -- "cohorts grow by U/window. If cohorts are at or above limit times U, the destination is dead until now + suspension .. Else .."
 unfoldable pub live_after_failure : Settings → ℕ → Sums → ℕ → Health
 live_after_failure g now u cohorts =
-    if is_dead_at g cohorts
+    when is_dead_at g cohorts
     then Dead (now + g.suspension)
     else Live (lowered u (feedback g.negative u.window) cohorts)
 
@@ -92,8 +92,8 @@ after_report g busy now Failure h = after_failure g now h
 -- "Raised and lowered mean that a live window ends larger or smaller than the step found it, so a step pushed back by a limit is unchanged"
 unfoldable pub window_moved : ℕ → ℕ → Move
 window_moved found left =
-    if ltb found left then Move.Raised
-    else if ltb left found then Move.Lowered
+    when ltb found left then Move.Raised
+    else when ltb left found then Move.Lowered
     else Move.Unchanged
 
 -- "dead that it died in the step"
@@ -130,12 +130,12 @@ stepped g busy now outcome h =
 -- "wakes destinations whose suspension ends at or before it, to their first state"
 unfoldable pub woken_health : Settings → ℕ → Health → Health
 woken_health g now (Live u) = Live u
-woken_health g now (Dead end) = if leb end now then Live (first_state g) else Dead end
+woken_health g now (Dead end) = when leb end now then Live (first_state g) else Dead end
 
 -- a destination after waking; past the set-up's destinations nothing is woken
 unfoldable pub woken_at : List Destination → Setup → ℕ → ℕ → Destination
 woken_at ds u now d =
-    if ltb d u.destinations
+    when ltb d u.destinations
     then record { health = woken_health (settings_in u d) now (get_or ds d zero_destination).health }
     else get_or ds d zero_destination
 

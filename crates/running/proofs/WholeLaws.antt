@@ -3,7 +3,7 @@ use Prim.Native.Nat.{ℕ}
 use mathlib.Core.Path.{◌≡◌, refl, sym, ◌∙◌, ap}
 use mathlib.Core.Bool.{Bool, true, false}
 use mathlib.Core.List.{List}
-use Rattle.laws.specs.Bools.{if◌then◌else◌}
+use Rattle.laws.specs.Bools.{when◌then◌else◌}
 use Rattle.laws.proofs.Bools.{true_not_false}
 use Rattle.rules.specs.declared.Setup.{Setup}
 use Rattle.rules.specs.declared.State.{State}
@@ -25,7 +25,7 @@ module _ (u : Setup) (words answers lists texts : List ℕ) where
       setup_in_range u ≡ false
       → (record { calls = 0; end = 0; answers = answers; lists = lists; texts = texts } ≡ run_reply u words answers lists texts)
       × Demand3OfRun u (calls_read words answers lists texts).calls
-  unfolding run_reply if◌then◌else◌
+  unfolding run_reply when◌then◌else◌
   run_refused h = (rw h refl, λ k. true_not_false k h)
 
   pub run_accepted :
@@ -35,7 +35,7 @@ module _ (u : Setup) (words answers lists texts : List ℕ) where
       → x ≡ ran_from r.state (calls_read words answers lists texts) answers lists texts
       → (x ≡ run_reply u words answers lists texts)
       × Demand3OfRun u (calls_read words answers lists texts).calls
-  unfolding run_reply if◌then◌else◌
+  unfolding run_reply when◌then◌else◌
   run_accepted r x h e g =
       let first : r.state ≡ fresh_state u = ap (λ r. r.state) e ∙ start_is u h in
       (g ∙ rw (h, first) refl, λ k. (demand3 u k _, companions u k _))

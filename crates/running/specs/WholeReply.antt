@@ -1,6 +1,6 @@
 -- What `run` gives back: the rules' replies to the calls that it was handed, laid out as layout/specs/Layout.antt says, and demand 3 of these calls.
 use Rattle.std.specs.Prelude.{ℕ, ◌≡◌, true, List, length}
-use Rattle.laws.specs.Bools.{if◌then◌else◌}
+use Rattle.laws.specs.Bools.{when◌then◌else◌}
 use Rattle.rules.specs.declared.Setup.{Setup}
 use Rattle.rules.specs.declared.State.{State}
 use Rattle.rules.specs.Setup.{setup_in_range, fresh_state}
@@ -39,7 +39,7 @@ ran_from s r answers lists texts =
 -- "A refused set-up runs nothing"
 unfoldable pub run_reply : Setup → List ℕ → List ℕ → List ℕ → List ℕ → Ran
 run_reply u words answers lists texts =
-    if setup_in_range u
+    when setup_in_range u
     then ran_from (fresh_state u) (calls_read words answers lists texts) answers lists texts
     else record { calls = 0; end = 0; answers = answers; lists = lists; texts = texts }
 

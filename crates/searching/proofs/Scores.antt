@@ -7,7 +7,7 @@ use native.Mathlib.Omega.{arith}
 use lib.Dec.{eqb, ltb, leb}
 use lib.ListN.{get_or}
 use borrow.Author.Tests.{lt-ltb, lt-leb}
-use Rattle.laws.specs.Bools.{if◌then◌else◌}
+use Rattle.laws.specs.Bools.{when◌then◌else◌}
 use Rattle.laws.proofs.Bools.{and_left_false, and_right_false}
 use Rattle.rules.specs.declared.Jobs.{Jobs}
 use Rattle.rules.specs.declared.State.{State}
@@ -70,11 +70,11 @@ module _ (s : State) (jobs : Jobs) (waits : List ℕ) (ready : List Bool) (same 
         go (suc b) e = let h = score.some b e in rw (is-age, h.1, h.2, ← same, reads.waiting b (omega (arith, h.0))) refl
 
     -- the better of the link and x
-    pub better_is : (ahead : Bool) → ahead ≡ ltb (than * at waits x) (age * of) → better s time t y link x ≡ (if is_candidate s t y x && ahead then suc x else link)
+    pub better_is : (ahead : Bool) → ahead ≡ ltb (than * at waits x) (age * of) → better s time t y link x ≡ (when is_candidate s t y x && ahead then suc x else link)
     unfolding better beats
     better_is ahead e = go link refl
       where
-        go : (k : ℕ) → link ≡ k → better s time t y k x ≡ (if is_candidate s t y x && ahead then suc x else k)
+        go : (k : ℕ) → link ≡ k → better s time t y k x ≡ (when is_candidate s t y x && ahead then suc x else k)
         go zero q =
             let h = score.none q in
             let first : ahead ≡ true = e ∙ rw (h.0, h.1) (lt-ltb (0 * at waits x) (age * 1) (omega (arith, is-age))) in

@@ -9,7 +9,7 @@ use lib.Dec.{eqb, ltb, leb}
 use lib.ListN.{length, get_or}
 use lib.Seq.{get_or-take, length-take-le}
 use borrow.Author.Tests.{eq-eqb, ne_eqb}
-use Rattle.laws.specs.Bools.{if◌then◌else◌}
+use Rattle.laws.specs.Bools.{when◌then◌else◌}
 use Rattle.laws.specs.Range.{count_to, fold_to}
 use Rattle.laws.specs.Sequence.{never_falling}
 use Rattle.laws.proofs.Bools.{if_true, if_false, and_both, and_left_false, and_right_false}
@@ -155,11 +155,11 @@ module _ {jobs : Jobs} {arrivals : JobList} {waits : List ℕ} {ready : List Boo
 
         module _ (goes : leb (age * of) than ≡ false) (ahead : Bool) (is-ahead : ahead ≡ ltb (than * at waits x) (age * of)) where
           next : (s : State) → Matches s jobs arrivals waits ready t y most
-              → best_before s time t y (i + 1) ≡ (if (able_at jobs waits y most x && ahead) && get_or ready x false then suc x else link)
+              → best_before s time t y (i + 1) ≡ (when (able_at jobs waits y most x && ahead) && get_or ready x false then suc x else link)
           next s m =
               best_next s m
               ∙ better_is s jobs waits ready m.jobs' m.reads t y x (omega arith) time link than of age r.score is-age ahead is-ahead
-              ∙ ap (λ b. if b then suc x else link)
+              ∙ ap (λ b. when b then suc x else link)
               (sym (candidate_is s jobs waits ready m.jobs' m.reads t y x (omega arith) most ahead (lane_read s m ∙ eq-eqb (at jobs.transport x) t on) m.most'))
 
           -- x, looked at, and the best after it

@@ -9,7 +9,7 @@ use native.Mathlib.Omega.{arith}
 use lib.ListN.{length, set, drop, length-append, length-drop}
 use lib.Dec.{eqb}
 use borrow.Author.Tests.{eqb-true, eq-eqb, ne_eqb}
-use Rattle.laws.specs.Bools.{if◌then◌else◌}
+use Rattle.laws.specs.Bools.{when◌then◌else◌}
 use Rattle.laws.specs.Range.{count_to, chosen_to, table_to}
 use Rattle.laws.proofs.Bools.{and_both, and_left, and_left_false, and_right_false, if_true, if_false}
 use Rattle.laws.proofs.Count.{count_none, count_hit, count_miss, count_le_bound}
@@ -121,7 +121,7 @@ module _ (d : ℕ) (kind job destination dropped list : List ℕ) (can : CanPutO
 
   -- nothing is put off where the destination did not die
   pub put_off_none : PutOff false d kind job destination dropped list kind dropped list 0
-  unfolding table_to if◌then◌else◌
+  unfolding table_to when◌then◌else◌
   put_off_none =
       let none : chosen_to (put_off_at kind destination false d) max_entries ≡ [] = chosen_none max_entries in record {
         kinds = sym (ap (table_to (at kind)) (sym can.entries) ∙ table_self 0 kind);

@@ -6,7 +6,7 @@ use mathlib.Core.List.{List}
 use lib.ListN.{length}
 use lib.Dec.{eqb, ltb}
 use borrow.Author.Tests.{lt-ltb, le-ltb, eq-eqb, ne_eqb}
-use Rattle.laws.specs.Bools.{if◌then◌else◌}
+use Rattle.laws.specs.Bools.{when◌then◌else◌}
 use Rattle.laws.proofs.Bools.{and_both, and_left_false, and_right_false}
 use Rattle.rules.specs.declared.State.{State}
 use Rattle.rules.specs.Sizes.{max_entries}
@@ -18,7 +18,7 @@ use Rattle.settling.specs.Settling.{entry_refusal}
 module _ (kind tickets : List ℕ) (e ticket places : ℕ) where
   -- 9: the entry is none, is not busy, or has another ticket
   refuse_entry : ltb e max_entries && eqb (at kind e) 2 && eqb (at tickets e) ticket ≡ false → 9 ≡ entry_refusal kind tickets e ticket places
-  unfolding entry_refusal if◌then◌else◌
+  unfolding entry_refusal when◌then◌else◌
   refuse_entry n = rw n refl
 
   pub refuse_none : max_entries ≤ e → 9 ≡ entry_refusal kind tickets e ticket places
@@ -35,14 +35,14 @@ module _ (kind tickets : List ℕ) (e ticket places : ℕ) where
     held = and_both (and_both (lt-ltb e max_entries lt) (eq-eqb (at kind e) 2 busy)) (eq-eqb (at tickets e) ticket (sym is ∙ issued))
 
     pub refuse_list : places < max_entries → 10 ≡ entry_refusal kind tickets e ticket places
-    unfolding entry_refusal if◌then◌else◌
+    unfolding entry_refusal when◌then◌else◌
     refuse_list h = rw (held, lt-ltb places max_entries h) refl
 
     pub refuse_not : max_entries ≤ places → 0 ≡ entry_refusal kind tickets e ticket places
-    unfolding entry_refusal if◌then◌else◌
+    unfolding entry_refusal when◌then◌else◌
     refuse_not h = rw (held, le-ltb places max_entries h) refl
 
 pub entry_refusal_is : (s : State) (now e ticket : ℕ) (list : List ℕ) → sound s ≡ true → bad_clock s now ≡ false
     → entry_refusal s.entries.kind s.entries.ticket e ticket (length list) ≡ report_refusal s now e ticket list
-unfolding entry_refusal report_refusal is_busy_with if◌then◌else◌
+unfolding entry_refusal report_refusal is_busy_with when◌then◌else◌
 entry_refusal_is s now e ticket list whole good = rw (whole, good) refl

@@ -1,7 +1,7 @@
 -- The parts of a report on its destination and its entries, over the columns that they read: each is what rules/specs/Reporting.antt says of a state with
 -- these columns.
 use Rattle.std.specs.Prelude.{ℕ, ◌+◌, ◌≤◌, ◌<◌, ◌≡◌, Bool, not, ◌&&◌, List, length, eqb, ltb}
-use Rattle.laws.specs.Bools.{if◌then◌else◌}
+use Rattle.laws.specs.Bools.{when◌then◌else◌}
 use Rattle.laws.specs.Range.{count_to, chosen_to, table_to}
 use Rattle.rules.specs.Sizes.{max_jobs, max_entries, max_length}
 use Rattle.rules.specs.State.{at}
@@ -13,7 +13,7 @@ put_off_at kind destination died d e = died && eqb (at kind e) 1 && eqb (at dest
 
 -- the kind of an entry after the put-off
 abbrev pub kept_at : List ℕ → List ℕ → Bool → ℕ → ℕ → ℕ
-kept_at kind destination died d e = if put_off_at kind destination died d e then 0 else at kind e
+kept_at kind destination died d e = when put_off_at kind destination died d e then 0 else at kind e
 
 -- what a job has dropped, the put-off among the first n entries counted in
 abbrev pub dropped_at : List ℕ → List ℕ → List ℕ → List ℕ → Bool → ℕ → ℕ → ℕ → ℕ
@@ -39,6 +39,6 @@ pub record PutOff (died : Bool) (d : ℕ) (kind job destination dropped list : L
 -- `report_refusal` once the clock is good, over the columns that it reads: 9 where the entry is not busy with this ticket, 10 where the list is too short.
 unfoldable pub entry_refusal : List ℕ → List ℕ → ℕ → ℕ → ℕ → ℕ
 entry_refusal kind tickets e ticket places =
-    if not (ltb e max_entries && eqb (at kind e) 2 && eqb (at tickets e) ticket) then 9
-    else if ltb places max_entries then 10
+    when not (ltb e max_entries && eqb (at kind e) 2 && eqb (at tickets e) ticket) then 9
+    else when ltb places max_entries then 10
     else 0

@@ -6,7 +6,7 @@ use native.Mathlib.Numerals.{add-one}
 use native.Mathlib.Omega.{arith}
 use lib.ListN.{get_or, set, drop, replicate}
 use borrow.Author.Tests.{lt-ltb, le-ltb}
-use Rattle.laws.specs.Bools.{if◌then◌else◌}
+use Rattle.laws.specs.Bools.{when◌then◌else◌}
 use Rattle.laws.specs.Range.{table_to}
 use Rattle.laws.proofs.Fill.{table_drop, table_rest}
 use Rattle.laws.proofs.Places.{get_or_repeated}
@@ -50,11 +50,11 @@ module _ (u : Setup) where
 
   pub first_written : (d : ℕ) (ds : List Destination) (r : Sums) → ds ≡ first_to d → d < u.destinations → d < 32
       → r ≡ first_state (settings_in u d) → set ds d (record { health = Live r }) ≡ first_to (d + 1)
-  unfolding first_destination if◌then◌else◌
+  unfolding first_destination when◌then◌else◌
   first_written d ds r n l h k =
       let w : first_destination u d ≡ record { health = Live r } = rw (lt-ltb d u.destinations l, k) in
       rw (n, add-one) (rw w at (table_drop (first_destination u) (replicate 32 zero_destination) d h))
 
   pub first_all : (d : ℕ) → d ≡ u.destinations → d ≤ 32 → first_to d ≡ table_to (first_destination u) 32
-  unfolding first_destination if◌then◌else◌
+  unfolding first_destination when◌then◌else◌
   first_all d e h = table_rest (first_destination u) zero_destination (replicate 32 zero_destination) d h (λ i l. rw (le-ltb i u.destinations (omega arith)) (sym (get_or_repeated zero_destination 32 i)))

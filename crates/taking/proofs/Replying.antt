@@ -9,7 +9,7 @@ use native.Mathlib.Nat.{pos_of_ne-zero}
 use lib.ListN.{length, get_or, set}
 use lib.Dec.{eqb}
 use borrow.Author.Tests.{eq-eqb, ne_eqb}
-use Rattle.laws.specs.Bools.{if◌then◌else◌}
+use Rattle.laws.specs.Bools.{when◌then◌else◌}
 use Rattle.laws.specs.Range.{count_to, chosen_to, first_to, table_to}
 use Rattle.laws.specs.Sequence.{padded}
 use Rattle.laws.proofs.Bools.{and_left_false}
@@ -46,7 +46,7 @@ module _ (w : State) (now t : ℕ) (dests list : List ℕ) (st : State) (putoff 
     (counted : putoff ≡ length (put_off_positions w dests)) (wrote : after ≡ written (put_off_positions w dests) list) where
   pub replies_none :
       st ≡ w → n_of w dests ≡ 0 → ◌≡◌ {A = Reply} (record { says = granted (putoff ∷ []); state = st; buffer = after }) (taking_reply w now t dests list)
-  unfolding taking_reply if◌then◌else◌
+  unfolding taking_reply when◌then◌else◌
   replies_none same h = rw (same, counted, wrote, eq-eqb (n_of w dests) 0 h)
 
   pub replies_some :
@@ -55,7 +55,7 @@ module _ (w : State) (now t : ℕ) (dests list : List ℕ) (st : State) (putoff 
       → st ≡ taken w (new_number w) t now (kept_of w dests)
       → n_of w dests ≢ 0
       → ◌≡◌ {A = Reply} (record { says = granted (j ∷ putoff ∷ []); state = st; buffer = after }) (taking_reply w now t dests list)
-  unfolding taking_reply if◌then◌else◌
+  unfolding taking_reply when◌then◌else◌
   replies_some j e same h = rw (same, e, counted, wrote, ne_eqb (n_of w dests) 0 h)
 
 -- The state after taking.

@@ -8,7 +8,7 @@ use lib.Dec.{leb, ltb}
 use native.Mathlib.Omega.{arith}
 use lib.ListN.{length, get_or, set, drop}
 use borrow.Author.Tests.{lt-ltb, le-ltb}
-use Rattle.laws.specs.Bools.{if◌then◌else◌}
+use Rattle.laws.specs.Bools.{when◌then◌else◌}
 use Rattle.laws.specs.Range.{table_to}
 use Rattle.laws.proofs.Fill.{get_or_fill, table_drop, table_keep, table_rest}
 use Rattle.rules.specs.Changed.{at_clock, on_destinations}
@@ -31,12 +31,12 @@ use Rattle.waking.specs.Waking.{is_due, setup_of}
 -- One turn of the code's loop.
 
 not_due : (g : Settings) (h : Health) (now : ℕ) → is_due h now ≡ false → woken_health g now h ≡ h
-unfolding is_due woken_health if◌then◌else◌
+unfolding is_due woken_health when◌then◌else◌
 not_due g (Live u) now e = refl
 not_due g (Dead end) now e = rw e
 
 is_due_lem : (g : Settings) (h : Health) (now : ℕ) → is_due h now ≡ true → woken_health g now h ≡ Live (first_state g)
-unfolding is_due woken_health if◌then◌else◌
+unfolding is_due woken_health when◌then◌else◌
 is_due_lem g (Live u) now e = absurd (false≢true e)
 is_due_lem g (Dead end) now e = rw e
 
@@ -55,14 +55,14 @@ module _ (ds : List Destination) (u : Setup) (now : ℕ) where
     as_it_came = ap (λ l. get_or l d zero_destination) n ∙ get_or_fill (woken_at ds u now) ds d d zero_destination (omega arith)
 
     pub woken_kept : is_due (get_or next d zero_destination).health now ≡ false → next ≡ woken_to (d + 1)
-    unfolding woken_at if◌then◌else◌
+    unfolding woken_at when◌then◌else◌
     woken_kept e =
         let f : is_due (get_or ds d zero_destination).health now ≡ false = rw as_it_came at e in
         n ∙ rw add-one (table_keep (woken_at ds u now) zero_destination ds d h (rw (lt-ltb d u.destinations l, not_due _ _ now f)))
 
     pub woken_written : (r : Sums) → is_due (get_or next d zero_destination).health now ≡ true
         → r ≡ first_state (settings_in u d) → set next d (record { health = Live r }) ≡ woken_to (d + 1)
-    unfolding woken_at if◌then◌else◌
+    unfolding woken_at when◌then◌else◌
     woken_written r e k =
         let f : is_due (get_or ds d zero_destination).health now ≡ true = rw as_it_came at e in
         let g = settings_in u d in
@@ -70,7 +70,7 @@ module _ (ds : List Destination) (u : Setup) (now : ℕ) where
         rw (n, add-one) (rw w at (table_drop (woken_at ds u now) ds d h))
 
   pub woken_all : (d : ℕ) → d ≡ u.destinations → d ≤ length ds → woken_to d ≡ table_to (woken_at ds u now) (length ds)
-  unfolding woken_at if◌then◌else◌
+  unfolding woken_at when◌then◌else◌
   woken_all d e h = table_rest (woken_at ds u now) zero_destination ds d h (λ i l. rw (le-ltb i u.destinations (omega arith)))
 
 -- whether one is due, by its case

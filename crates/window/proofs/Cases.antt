@@ -3,7 +3,7 @@ use Prim.Native.Nat.{ℕ, ◌+◌, ◌-◌, ◌≤◌, ◌<◌, min, max}
 use mathlib.Core.Path.{◌≡◌, refl}
 use native.Mathlib.Omega.{arith}
 use borrow.Author.Tests.{lt-ltb, le-ltb, le-leb, lt-leb}
-use Rattle.laws.specs.Bools.{if◌then◌else◌}
+use Rattle.laws.specs.Bools.{when◌then◌else◌}
 use Rattle.rules.specs.declared.Settings.{Settings}
 use Rattle.rules.specs.declared.Sums.{Sums}
 use Rattle.rules.specs.declared.Health.{Health}
@@ -21,11 +21,11 @@ abbrev pub sums : ℕ → ℕ → ℕ → ℕ → Sums
 sums window success failure cohorts = record { window = window; success = success; failure = failure; cohorts = cohorts }
 
 pub raised_below : (g : Settings) (u : Sums) (success : ℕ) → success < U → sums u.window success u.failure 0 ≡ raised g u success
-unfolding raised if◌then◌else◌
+unfolding raised when◌then◌else◌
 raised_below g u success l = rw (lt-leb U success l)
 
 pub raised_above : (g : Settings) (u : Sums) (success w : ℕ) → U ≤ success → w ≡ min (u.window + 1) g.limit → sums w (success - U) 0 0 ≡ raised g u success
-unfolding raised if◌then◌else◌
+unfolding raised when◌then◌else◌
 raised_above g u success w l e = rw (le-leb U success l, e)
 
 pub success_grows :
@@ -34,11 +34,11 @@ pub success_grows :
     → b ≡ feedback g.positive u.window
     → r ≡ raised g u (u.success + b)
     → r ≡ live_after_success g busy u
-unfolding live_after_success if◌then◌else◌
+unfolding live_after_success when◌then◌else◌
 success_grows g busy u r b l e h = rw (lt-ltb u.window (busy + g.initial) l, ← e) h
 
 pub success_stays : (g : Settings) (busy : ℕ) (u : Sums) → busy + g.initial ≤ u.window → sums u.window u.success u.failure 0 ≡ live_after_success g busy u
-unfolding live_after_success if◌then◌else◌
+unfolding live_after_success when◌then◌else◌
 success_stays g busy u l = rw (le-ltb u.window (busy + g.initial) l)
 
 pub success_live : (g : Settings) (busy : ℕ) (h : Health) (u r : Sums) → h ≡ Live u → r ≡ live_after_success g busy u → Live r ≡ after_success g busy h
@@ -50,15 +50,15 @@ unfolding after_success
 success_dead g busy h end r e k = rw (e, k)
 
 pub lowered_above : (u : Sums) (fall cohorts : ℕ) → fall ≤ u.failure → sums u.window u.success (u.failure - fall) cohorts ≡ lowered u fall cohorts
-unfolding lowered if◌then◌else◌
+unfolding lowered when◌then◌else◌
 lowered_above u fall cohorts l = rw (le-ltb u.failure fall l)
 
 pub lowered_below : (u : Sums) (fall cohorts w : ℕ) → u.failure < fall → w ≡ max (u.window - 1) 1 → sums w 0 (u.failure + U - fall) cohorts ≡ lowered u fall cohorts
-unfolding lowered if◌then◌else◌
+unfolding lowered when◌then◌else◌
 lowered_below u fall cohorts w l e = rw (lt-ltb u.failure fall l, e)
 
 pub failure_kills : (g : Settings) (now : ℕ) (u : Sums) (cohorts : ℕ) → cohort_bound g ≤ cohorts → Dead (now + g.suspension) ≡ live_after_failure g now u cohorts
-unfolding live_after_failure is_dead_at if◌then◌else◌
+unfolding live_after_failure is_dead_at when◌then◌else◌
 failure_kills g now u cohorts l = rw (le-leb (cohort_bound g) cohorts l)
 
 pub failure_spares :
@@ -67,7 +67,7 @@ pub failure_spares :
     → b ≡ feedback g.negative u.window
     → r ≡ lowered u b cohorts
     → Live r ≡ live_after_failure g now u cohorts
-unfolding live_after_failure is_dead_at if◌then◌else◌
+unfolding live_after_failure is_dead_at when◌then◌else◌
 failure_spares g now u r cohorts b l e h = rw (lt-leb (cohort_bound g) cohorts l, ← e, h)
 
 pub failure_live : (g : Settings) (now : ℕ) (h r : Health) (u : Sums) (b : ℕ) → h ≡ Live u → b ≡ cohort_share u.window → r ≡ live_after_failure g now u (u.cohorts + b) → r ≡ after_failure g now h
@@ -90,15 +90,15 @@ report_failure g busy now h r outcome e k = rw e k
 
 module _ (found left : ℕ) where
   pub window_raised : found < left → Move.Raised ≡ window_moved found left
-  unfolding window_moved if◌then◌else◌
+  unfolding window_moved when◌then◌else◌
   window_raised l = rw (lt-ltb found left l)
 
   pub window_lowered : left < found → Move.Lowered ≡ window_moved found left
-  unfolding window_moved if◌then◌else◌
+  unfolding window_moved when◌then◌else◌
   window_lowered l = rw (le-ltb found left (omega arith), lt-ltb left found l)
 
   pub window_unchanged : left ≤ found → found ≤ left → Move.Unchanged ≡ window_moved found left
-  unfolding window_moved if◌then◌else◌
+  unfolding window_moved when◌then◌else◌
   window_unchanged g l = rw (le-ltb found left g, le-ltb left found l)
 
 pub live_lives : (found : ℕ) (left : Health) (u : Sums) (r : Move) → left ≡ Live u → r ≡ window_moved found u.window → r ≡ live_moved found left

@@ -6,7 +6,7 @@ use mathlib.Core.Logic.{◌≢◌}
 use native.Mathlib.Omega.{arith}
 use native.Mathlib.Nat.{mul-le-mul, mul-le-mul_left}
 use borrow.Author.Tests.{eq-eqb, ne_eqb}
-use Rattle.laws.specs.Bools.{if◌then◌else◌}
+use Rattle.laws.specs.Bools.{when◌then◌else◌}
 use Rattle.laws.specs.Fractions.{rounded_up}
 use Rattle.laws.proofs.Fractions.{rounded_up_bound}
 use Rattle.rules.specs.declared.Feedback.{Feedback}
@@ -24,15 +24,15 @@ use Rattle.rules.proofs.WindowLaws.{feedback_le_U}
 use Rattle.window.specs.Fits.{health_fits}
 
 pub feedback_flat : (f : Feedback) (window : ℕ) → f.form ≡ 0 → feedback f window ≡ f.percent * U / 100
-unfolding feedback if◌then◌else◌
+unfolding feedback when◌then◌else◌
 feedback_flat f window e = rw (eq-eqb f.form 0 e)
 
 pub feedback_per_window : (f : Feedback) (window : ℕ) → f.form ≡ 1 → feedback f window ≡ rounded_up (f.percent * U) (100 * window)
-unfolding feedback if◌then◌else◌
+unfolding feedback when◌then◌else◌
 feedback_per_window f window e = rw (ne_eqb f.form 0 (omega (arith, e)), eq-eqb f.form 1 e)
 
 pub feedback_root : (f : Feedback) (window x : ℕ) → f.form ≢ 0 → f.form ≢ 1 → x ≡ root window → f.percent * x / 100 ≡ feedback f window
-unfolding feedback if◌then◌else◌
+unfolding feedback when◌then◌else◌
 feedback_root f window x flat per e = rw (ne_eqb f.form 0 flat, ne_eqb f.form 1 per, e)
 
 pub root_high : (p window x : ℕ) → p ≤ 100 → x ≡ root window → p * x ≤ 100 * U

@@ -13,7 +13,7 @@ use Rattle.calling.proofs.answer_line.Goals.{After-find-end}
 
 -- the word ends at the first blank
 ends_there : (c : After-find-end)
- → FirstFrom (is_byte c.args.line.now 32) c.skip_blanks-at.result (length c.args.line.now) c.find-end.result
+    → FirstFrom (is_byte c.args.line.now 32) c.skip_blanks-at.result (length c.args.line.now) c.find-end.result
 ends_there c = c.find-end.ensures
 
 pub returns-then-n-at : goal.returns-then-n-at

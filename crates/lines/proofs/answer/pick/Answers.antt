@@ -1,7 +1,7 @@
 -- The text is that of the answer's case. Assumes nothing.
 use Rattle.lines.specs.Texts.{pick_text}
 use Rattle.lines.proofs.PutLaws.{put_case}
-use Rattle.laws.specs.Bools.{if◌then◌else◌}
+use Rattle.laws.specs.Bools.{when◌then◌else◌}
 use Rattle.rules.specs.Board.{decimal, decimal_in}
 use Rattle.lines.proofs.answer.pick.Goals as goal
 
@@ -14,5 +14,5 @@ unfolding pick_text
 returns-in-Picked c = put_case pick_text c.in-Picked.is c.picked.ensures
 
 pub returns-in-Nothing : goal.returns-in-Nothing
-unfolding pick_text decimal decimal_in if◌then◌else◌
+unfolding pick_text decimal decimal_in when◌then◌else◌
 returns-in-Nothing c = put_case pick_text c.in-Nothing.is c.put.ensures
