@@ -4,7 +4,7 @@ use lib.ListN.{length}
 use Rattle.runs.proofs.show_lists.Given as goal
 
 abbrev pub invariant-loop-i : goal.invariant-loop-i
-invariant-loop-i l = length l.out ≡ length l.initial.out
+invariant-loop-i g l = length l.out ≡ length l.initial.out
 
 abbrev pub decreases-loop-i : goal.decreases-loop-i
-decreases-loop-i l = length l.lists - l.i
+decreases-loop-i g l = length l.lists - l.i
