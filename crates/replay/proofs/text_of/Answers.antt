@@ -1,0 +1,6 @@
+-- The buffer has room for the whole text. Assumes nothing.
+use native.Mathlib.Omega.{arith}
+use Rattle.replay.proofs.text_of.Goals as goal
+
+pub returns : goal.returns
+returns c = c.replay-r.ensures.whole (omega arith)
