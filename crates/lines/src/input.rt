@@ -1,6 +1,6 @@
 // An input, line by line or whole, through a lent buffer. Lines end with byte 10; what stands behind the last of these is a line too. A line that
 // the buffer has no room for is handed out as its end alone, and told apart.
-ghost use Rattle.std.specs.Prelude.{◌+◌, ◌≤◌, ◌<◌, ◌≡◌, length, IfOk};
+ghost use Rattle.std.specs.Prelude.{◌+◌, ◌≤◌, ◌<◌, ◌≡◌, length, IfOk, OnErr};
 
 use crate::text;
 use crate::text::find;
@@ -33,10 +33,11 @@ pub fn none() -> Line
     }
 }
 
-// The line behind another. It turns at most 2^64 - 1 times, which no input uses up: a turn reads at least a byte.
+// The line behind another. An error is that of a read: the buffer keeps its length, and no line is handed out. It turns at most 2^64 - 1 times, which no input uses up: a turn reads at least a byte.
 pub fn next_line<R: Read>(from: &mut R, buffer: &mut [u8], last: Line) -> io::Result<Line>
     requires { (0 < length buffer.old) × (last.next ≤ last.have) × (last.have ≤ length buffer.old) }
-    ensures { IfOk result (λ l. (l.start ≤ l.end) × (l.end < length buffer.new) × (l.next ≤ l.have) × (l.have ≤ length buffer.new)) }
+    ensures ok { IfOk result (λ l. (l.start ≤ l.end) × (l.end < length buffer.new) × (l.next ≤ l.have) × (l.have ≤ length buffer.new)) }
+    ensures err { OnErr result (length buffer.new ≡ length buffer.old) }
 {
     let mut h = Held {
         start: last.next,
