@@ -14,10 +14,6 @@ HEAD = """#![allow(dead_code, unused)]
 fn wrapping_add_u32(a: u32, b: u32) -> u32 {
     a.wrapping_add(b)
 }
-fn bytes_copy(from: &[u8], to: &mut [u8]) -> usize {
-    to[..from.len()].copy_from_slice(from);
-    from.len()
-}
 """
 MAIN = """fn main() {
     let name = std::env::args().nth(1).unwrap_or_default();
@@ -59,7 +55,7 @@ def without_contracts(text: str) -> str:
 
 def inlined(file: Path) -> str:
     """The file with its modules in place of `mod name;`."""
-    text = re.sub(r"(?m)^ghost use .*\n", "", without_contracts(file.read_text()))
+    text = re.sub(r"(?m)^(ghost use .*|#!?\[(derive|tactic)\(.*)\n", "", without_contracts(file.read_text()))
     text = re.sub(r"(?m)^(pub )?(struct|enum) ", r"#[derive(Clone, Copy)]\n\1\2 ", text)
     return re.sub(r"(?m)^(pub )?mod (\w+);\n", lambda m: block(m[1] or "", m[2], inlined(file.parent / f"{m[2]}.rt")), text)
 
@@ -74,8 +70,8 @@ def placed(crate: str, text: str) -> str:
         text = re.sub(r"\bcrate::", f"crate::{crate}::", text)
     for other in CRATES:
         if other != crate:
-            text = re.sub(rf"(?<![\w:]){other}::(?=\w)", f"crate::{other}::", text)
-    return text.replace("std::num::wrapping_add_u32", "crate::wrapping_add_u32").replace("bytes::copy", "crate::bytes_copy")
+            text = re.sub(rf"(?<![\w:]){other}::(?=[\w{{])", f"crate::{other}::", text)
+    return text.replace("std::num::wrapping_add_u32", "crate::wrapping_add_u32")
 
 
 parts = [block("pub ", c, placed(c, inlined(Path(f"crates/{c}/src/lib.rt")))) for c in CRATES]
