@@ -1,7 +1,7 @@
 #!/usr/bin/env python3
 """Prints the scheduler and the workloads of `measure` as one file of plain Rust: contracts taken away, every type Copy.
 
-Run from the top of the repository: python3 docs/plain-rust.py > target/plain.rs && rustc -C opt-level=3 --edition 2021 -o target/plain target/plain.rs
+Run from the top of the repository: mkdir -p target && python3 docs/plain-rust.py > target/plain.rs && rustc -C opt-level=3 --edition 2021 -o target/plain target/plain.rs
 """
 import re
 from pathlib import Path
