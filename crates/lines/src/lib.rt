@@ -1,4 +1,4 @@
-// Lines of text: read from standard input, their words read as numbers and as a set-up, and an answer put into one.
+// Lines of text: read from an input, their words read as numbers and as a set-up, and an answer put into one.
 #![tactic(auto)]
 
 pub mod answer;

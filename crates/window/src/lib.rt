@@ -15,7 +15,7 @@ ghost use Rattle.rules.specs.Sound.{sums_fit};
 use roots::root;
 use rules::{Feedback, Health, Move, Outcome, Settings, StepAnswer, Sums, U};
 
-// a/b rounded up. The bounds are those of typeof.p.U and of 100·window.
+// a/b rounded up. The bounds are those of p·U and of 100·window.
 fn rounded_up(a: u64, b: u64) -> u64
     requires { (a ≤ 100 * U) × (1 ≤ b) × (b ≤ 100 * max_window) }
     ensures { result ≡ rounded_up a b }

@@ -43,9 +43,10 @@ tables c =
 
 turned : (c : Else-not-turn) → TurnRead c.args.w c.next_transport-turn.result.transport c.next_transport-turn.result.job c.next_transport-turn.result.passed
 turned c =
-    let t = c in
-    turn_read t.args.w (formed (goal.at.Else-not-turn t).After-left_waiting-waits) (right (goal.at.Else-not-turn t).After-left_waiting-waits) t.left_waiting-waits.result (ready_in t.args.pairs.now t.open_table-room.result) (tables (goal.at.Else-not-turn t).After-left_waiting-waits) c.next_transport-turn.result.found c.next_transport-turn.result.transport c.next_transport-turn.result.job c.next_transport-turn.result.passed c.next_transport-turn.ensures
-    (not-false c.next_transport-turn.result.found c.if-not-turn.false)
+    let w = (goal.at.Else-not-turn c).After-left_waiting-waits in
+    let r = c.next_transport-turn.result in
+    turn_read c.args.w (formed w) (right w) c.left_waiting-waits.result (ready_in c.args.pairs.now c.open_table-room.result) (tables w)
+    r.found r.transport r.job r.passed c.next_transport-turn.ensures (not-false r.found c.if-not-turn.false)
 
 -- the settings of the transport, as the code reads them
 settings-at : (c : After-wide-at)
