@@ -1,5 +1,5 @@
 #!/usr/bin/env python3
-"""Prints the scheduler and the workloads of `measure` as one file of plain Rust: contracts taken away, every type Copy.
+"""Prints the scheduler and the workloads of `measure` as one file of plain Rust: contracts and ghosts taken away, every type Copy.
 
 Run from the top of the repository: mkdir -p target && python3 docs/plain-rust.py > target/plain.rs && rustc -C opt-level=3 --edition 2021 -o target/plain target/plain.rs
 """
@@ -7,7 +7,7 @@ import re
 from pathlib import Path
 
 CRATES = (
-    "rules columns roots window waking ranges startup counting listing clauses soundness writing board lists charging eligibility turns searching preemption choice picking"
+    "rules roots window waking ranges startup counting listing clauses soundness writing board lists charging eligibility turns searching preemption choice picking"
     " admission newjob taking settling leaving reporting asking layout making running scheduler"
 ).split()
 HEAD = """#![allow(dead_code, unused)]
@@ -55,8 +55,9 @@ def without_contracts(text: str) -> str:
 
 def inlined(file: Path) -> str:
     """The file with its modules in place of `mod name;`."""
-    text = re.sub(r"(?m)^(ghost use .*|#!?\[(derive|tactic)\(.*)\n", "", without_contracts(file.read_text()))
-    text = re.sub(r"(?m)^(pub )?(struct|enum) ", r"#[derive(Clone, Copy)]\n\1\2 ", text)
+    text = re.sub(r"(?m)^[ \t]*(ghost .*|#!?\[(derive|tactic)\(.*)\n", "", without_contracts(file.read_text()))
+    text = re.sub(r"(?m)^(pub )?(struct|enum) ", r"#[derive(Clone, Copy, Debug, PartialEq, Eq)]\n\1\2 ", text)
+    text = text.replace("fn fmt<W: fmt::Write>(&self, f: &mut fmt::Formatter<W>)", "fn fmt(&self, f: &mut fmt::Formatter)")
     return re.sub(r"(?m)^(pub )?mod (\w+);\n", lambda m: block(m[1] or "", m[2], inlined(file.parent / f"{m[2]}.rt")), text)
 
 

@@ -5,14 +5,15 @@ use mathlib.Core.Path.{◌≡◌, refl, ap, ◌∙◌}
 use mathlib.Core.List.{List}
 use native.Mathlib.Omega.{arith}
 use lib.ListN.{length, get_or}
-use lib.Dec.{eqb, ltb}
-use borrow.Author.Tests.{ltb-true, lt-ltb, le-ltb, le-leb, lt-leb, eqb-true, eq-eqb, not-false}
+use lib.Dec.{eqb, ltb, leb}
+use borrow.Author.Tests.{ltb-true, ltb-false, lt-ltb, le-ltb, le-leb, lt-leb, eqb-true, eqb-false, not-false}
+use Rattle.std.specs.Option.{is_some}
 use Rattle.laws.specs.Bools.{when◌then◌else◌}
-use Rattle.laws.specs.Range.{all_to, count_to, first_to, table_to}
+use Rattle.laws.specs.Range.{all_to, count_to, first_to, first_below, table_to}
 use Rattle.laws.specs.Sequence.{every_in}
-use Rattle.laws.proofs.Bools.{case_bool, and_both, and_left, bool_same, not_is_false}
+use Rattle.laws.proofs.Bools.{case_bool, and_both, and_left, and_left_false, and_right_false, true_not_false, false_of, not_is_false}
 use Rattle.laws.proofs.All.{all_at, all_from}
-use Rattle.laws.proofs.First.{first_none, first_before, chosen_same}
+use Rattle.laws.proofs.First.{first_before, first_holds, chosen_same}
 use Rattle.laws.proofs.Keep.{keep_same}
 use Rattle.laws.proofs.Table.{get_or_table}
 use Rattle.laws.proofs.Sequence.{every_get_or, holds_place}
@@ -49,16 +50,32 @@ module _ (w : State) (dead : List Bool) (table : dead ≡ table_to (dead_on w.de
   put_off_by_is =
       chosen_same (λ i. get_or dead (at dests i) false) (λ i. is_dead w (at dests i)) (length dests) λ i h. dead_at (at dests i) (small i h)
 
--- all present, as the lowest free number says it
-all_present : (p : ℕ → Bool) → all_to p 32 ≡ eqb (first_to (λ j. not (p j)) 32) 32
-all_present p =
-    bool_same
-    (λ t. eq-eqb (first_to (λ j. not (p j)) 32) 32 (first_none (λ j. not (p j)) 32 λ i h. not_is_false (all_at p 32 t i h)))
+-- no number is free where all are present
+pub none_free : (p : ℕ → Bool) → is_some (first_below (λ j. not (p j)) 32) ≡ not (all_to p 32)
+none_free p =
+    let absent : ℕ → Bool = λ j. not (p j) in
+    case_bool (ltb (first_to absent 32) 32)
     (λ t.
-    let e = eqb-true (first_to (λ j. not (p j)) 32) 32 t in
-    all_from p 32 λ i h. not-false (p i) (first_before (λ j. not (p j)) 32 i (rw e h)))
+    let l = ltb-true (first_to absent 32) 32 t in
+    let f : all_to p 32 ≡ false = false_of λ a. true_not_false (first_holds absent 32 l) (not_is_false (all_at p 32 a (first_to absent 32) l)) in
+    rw (t, f) refl)
+    (λ f.
+    let h : (i : ℕ) → i < 32 → p i ≡ true = λ i l. not-false (p i) (first_before absent 32 i (omega (arith, ltb-false (first_to absent 32) 32 f))) in
+    rw (f, all_from p 32 h) refl)
 
 -- Each test, in the table's order.
+
+pub too_few : (n : ℕ) → eqb n 0 ≡ true → within 1 256 n ≡ false
+unfolding within
+too_few n h = and_left_false _ (lt-leb 1 n (omega (arith, eqb-true n 0 h)))
+
+pub too_many : (n : ℕ) → 256 < n → within 1 256 n ≡ false
+unfolding within
+too_many n h = and_right_false (leb 1 n) (lt-leb n 256 h)
+
+pub right_length : (n : ℕ) → eqb n 0 ≡ false → n ≤ 256 → within 1 256 n ≡ true
+unfolding within
+right_length n h k = and_both (le-leb 1 n (omega (arith, eqb-false n 0 h))) (le-leb n 256 k)
 
 module _ (home : List ℕ) (present : List Bool) (kind : List ℕ) (transports count t : ℕ) (dests : List ℕ) (n places : ℕ) where
   abbrev Refused : ℕ → Type 0
@@ -69,54 +86,35 @@ module _ (home : List ℕ) (present : List Bool) (kind : List ℕ) (transports c
   refuses_transport h = rw (le-ltb t transports h) refl
 
   module _ (there : t < transports) where
-    pub refuses_none : length dests < 1 → Refused 5
-    unfolding further_refusal within when◌then◌else◌
-    refuses_none h = rw (lt-ltb t transports there, lt-leb 1 (length dests) h) refl
+    pub refuses_length : within 1 256 (length dests) ≡ false → Refused 5
+    unfolding further_refusal when◌then◌else◌
+    refuses_length h = rw (lt-ltb t transports there, h) refl
 
-    module _ (some : 1 ≤ length dests) where
-      pub refuses_many : 256 < length dests → Refused 5
-      unfolding further_refusal within when◌then◌else◌
-      refuses_many h = rw (lt-ltb t transports there, le-leb 1 (length dests) some, lt-leb (length dests) 256 h) refl
+    module _ (right : within 1 256 (length dests) ≡ true) where
+      pub refuses_other : every_in (on_transport home count t) dests ≡ false → Refused 6
+      unfolding further_refusal when◌then◌else◌
+      refuses_other h = rw (lt-ltb t transports there, right, h) refl
 
-      module _ (few : length dests ≤ 256) where
-        right_length : within 1 256 (length dests) ≡ true
-        unfolding within
-        right_length = and_both (le-leb 1 (length dests) some) (le-leb (length dests) 256 few)
-
-        pub refuses_other : every_in (on_transport home count t) dests ≡ false → Refused 6
+      module _ (theirs : every_in (on_transport home count t) dests ≡ true) where
+        pub refuses_number : ltb 0 n && all_to (λ j. get_or present j false) 32 ≡ true → Refused 7
         unfolding further_refusal when◌then◌else◌
-        refuses_other h = rw (lt-ltb t transports there, right_length, h) refl
+        refuses_number h = rw (lt-ltb t transports there, right, theirs, h) refl
 
-        -- with m entries counted, and j the lowest free number
-        module _ (theirs : every_in (on_transport home count t) dests ≡ true) (m : ℕ) (counted : m ≡ n) (j : ℕ)
-            (lowest : j ≡ first_to (λ i. not (get_or present i false)) 32) where
-          number_says : ltb 0 m && eqb j 32 ≡ (ltb 0 n && all_to (λ i. get_or present i false) 32)
-          number_says = rw (counted, lowest, all_present (λ i. get_or present i false))
-
-          pub refuses_number : ltb 0 m && eqb j 32 ≡ true → Refused 7
+        module _ (number : ltb 0 n && all_to (λ j. get_or present j false) 32 ≡ false) where
+          pub refuses_places : count_to (free_in kind) 512 < n → Refused 8
           unfolding further_refusal when◌then◌else◌
-          refuses_number h = rw (lt-ltb t transports there, right_length, theirs, ← number_says, h) refl
+          refuses_places h = rw (lt-ltb t transports there, right, theirs, number, lt-ltb (count_to (free_in kind) 512) n h) refl
 
-          module _ (number : ltb 0 m && eqb j 32 ≡ false) (free : ℕ) (room : free ≡ count_to (free_in kind) 512) where
-            pub refuses_places : free < m → Refused 8
+          module _ (enough : n ≤ count_to (free_in kind) 512) where
+            pub refuses_list : places < length dests → Refused 10
             unfolding further_refusal when◌then◌else◌
-            refuses_places h =
-                let less : ltb (count_to (free_in kind) 512) n ≡ true = rw (← room, ← counted) (lt-ltb free m h) in
-                rw (lt-ltb t transports there, right_length, theirs, ← number_says, number, less) refl
+            refuses_list h =
+                rw (lt-ltb t transports there, right, theirs, number, le-ltb (count_to (free_in kind) 512) n enough, lt-ltb places (length dests) h) refl
 
-            module _ (enough : m ≤ free) where
-              not_less : ltb (count_to (free_in kind) 512) n ≡ false
-              not_less = rw (← room, ← counted) (le-ltb free m enough)
-
-              pub refuses_list : places < length dests → Refused 10
-              unfolding further_refusal when◌then◌else◌
-              refuses_list h =
-                  rw (lt-ltb t transports there, right_length, theirs, ← number_says, number, not_less, lt-ltb places (length dests) h) refl
-
-              pub refuses_nothing : length dests ≤ places → Refused 0
-              unfolding further_refusal when◌then◌else◌
-              refuses_nothing h =
-                  rw (lt-ltb t transports there, right_length, theirs, ← number_says, number, not_less, le-ltb places (length dests) h) refl
+            pub refuses_nothing : length dests ≤ places → Refused 0
+            unfolding further_refusal when◌then◌else◌
+            refuses_nothing h =
+                rw (lt-ltb t transports there, right, theirs, number, le-ltb (count_to (free_in kind) 512) n enough, le-ltb places (length dests) h) refl
 
 -- destinations of one transport are below 32
 pub small_of : (home : List ℕ) (count t : ℕ) (dests : List ℕ) → count ≤ 32 → every_in (on_transport home count t) dests ≡ true → Small dests

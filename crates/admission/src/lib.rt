@@ -4,20 +4,18 @@
 #![tactic(auto)]
 
 ghost use Rattle.std.specs.Prelude.{◌≡◌, false, not, ℕ, ◌≤◌, ◌<◌, length, get_or};
-ghost use Rattle.laws.specs.Range.{table_to, count_to, first_to};
+ghost use Rattle.laws.specs.Range.{table_to, count_to, first_below};
 ghost use Rattle.laws.specs.Sequence.{every_in};
+ghost use Rattle.rules.specs.Answers.{refusal_in};
 ghost use Rattle.rules.specs.State.{at, is_live};
 ghost use Rattle.admission.specs.Admission.{dead_on, on_transport, free_in, kept_by, further_refusal};
 
-use rules::{Destination, Health};
+use rules::{Destination, Health, Refusal};
 
 fn is_dead(h: Health) -> bool
     ensures { result ≡ not (is_live h) }
 {
-    match h {
-        Health::Live(_) => false,
-        Health::Dead(_) => true,
-    }
+    matches!(h, Health::Dead(_))
 }
 
 // A table of the dead.
@@ -25,12 +23,8 @@ pub fn dead_table(ds: [Destination; 32]) -> [bool; 32]
     ensures { result ≡ table_to (dead_on ds) 32 }
 {
     let mut dead = [false; 32];
-    let mut d: usize = 0;
-    while d < 32 {
-        let x = ds[d];
-        let h = x.health;
-        dead[d] = is_dead(h);
-        d += 1;
+    for d in 0..32 {
+        dead[d] = is_dead(ds[d].health);
     }
     dead
 }
@@ -40,19 +34,7 @@ pub fn all_on(home: &[u64; 32], count: u64, t: u64, dests: &[u64]) -> bool
     requires { count ≤ 32 }
     ensures { result ≡ every_in (on_transport home.now count t) dests.now }
 {
-    let mut i: usize = 0;
-    while i < dests.len() {
-        let d = dests[i];
-        if count <= d {
-            return false;
-        }
-        let k = d as usize;
-        if home[k] != t {
-            return false;
-        }
-        i += 1;
-    }
-    true
+    dests.iter().all(|&d| d < count && home[d as usize] == t)
 }
 
 // How many of the destinations are not dead.
@@ -60,88 +42,67 @@ pub fn count_kept(dests: &[u64], dead: &[bool; 32]) -> usize
     requires { (k : ℕ) → k < length dests.now → at dests.now k < 32 }
     ensures { result ≡ length (kept_by dead.now dests.now) }
 {
-    let mut n: usize = 0;
-    let mut i: usize = 0;
-    while i < dests.len() {
-        let d = dests[i];
-        let k = d as usize;
-        if !dead[k] {
+    let mut n = 0;
+    for &d in dests {
+        if !dead[d as usize] {
             n += 1;
         }
-        i += 1;
     }
     n
 }
 
-// The lowest free job number; 32 where there is none.
-pub fn first_absent(present: &[bool; 32]) -> u8
-    ensures { result ≡ first_to (λ j. not (get_or present.now j false)) 32 }
+// The lowest free job number, where there is one.
+pub fn first_absent(present: &[bool; 32]) -> Option<u8>
+    ensures { result ≡ first_below (λ j. not (get_or present.now j false)) 32 }
 {
-    let mut j: usize = 0;
-    while j < 32 {
-        if !present[j] {
-            return j as u8;
-        }
-        j += 1;
-    }
-    32
+    present
+        .iter()
+        .position(|&is_present| !is_present)
+        .map(|j| j as u8)
 }
 
 // How many entry places are free.
 pub fn count_free(kind: &[u8; 512]) -> usize
     ensures { result ≡ count_to (free_in kind.now) 512 }
 {
-    let mut n: usize = 0;
-    let mut e: usize = 0;
-    while e < 512 {
-        if kind[e] == 0 {
-            n += 1;
-        }
-        e += 1;
-    }
-    n
+    kind.iter().filter(|&&k| k == 0).count()
 }
 
-// The refusal that a job meets once its clock is good, in the table's order; 0 for none. It reads columns of the state, and the table of those that are
+// What a job is refused for once its clock is good, by the table's first row that fits. It reads columns of the state, and the table of those that are
 // dead after waking. Of a sound state's own columns this is `job_refusal` (`further_is` of proofs/).
-pub fn refusal<'a>(
-    home: &'a [u64; 32],
-    present: &'a [bool; 32],
-    kind: &'a [u8; 512],
+pub fn refusal(
+    home: &[u64; 32],
+    present: &[bool; 32],
+    kind: &[u8; 512],
     transports: u64,
     destinations: u64,
     t: u64,
     dests: &[u64],
     dead: &[bool; 32],
     places: usize,
-) -> u8
+) -> Result<(), Refusal>
     requires { destinations ≤ 32 }
-    ensures { result ≡ further_refusal home.now present.now kind.now transports destinations t
-        dests.now (length (kept_by dead.now dests.now)) places }
+    ensures { refusal_in result ≡ further_refusal home.now present.now kind.now transports
+        destinations t dests.now (length (kept_by dead.now dests.now)) places }
 {
     if transports <= t {
-        return 4;
+        return Err(Refusal::Transport);
     }
-    if dests.len() < 1 {
-        return 5;
-    }
-    if 256 < dests.len() {
-        return 5;
+    if dests.is_empty() || 256 < dests.len() {
+        return Err(Refusal::EntryCount);
     }
     if !all_on(home, destinations, t, dests) {
-        return 6;
+        return Err(Refusal::Destination);
     }
     let n = count_kept(dests, dead);
-    let number = first_absent(present);
-    if (0 < n) & (number == 32) {
-        return 7;
+    if 0 < n && first_absent(present).is_none() {
+        return Err(Refusal::JobNumbers);
     }
-    let free = count_free(kind);
-    if free < n {
-        return 8;
+    if count_free(kind) < n {
+        return Err(Refusal::EntryPlaces);
     }
     if places < dests.len() {
-        return 10;
+        return Err(Refusal::Room);
     }
-    0
+    Ok(())
 }

@@ -5,40 +5,39 @@ ghost use Rattle.std.specs.Prelude.{◌≡◌};
 ghost use Rattle.rules.specs.Calls.{ask_reply, board_reply};
 ghost use Rattle.rules.specs.Gave.{ask_gave, board_gave};
 
-use rules::{AskAnswer, BoardAnswer, State};
+use rules::{Refusal, State};
 
 // How many entries ever preempted a present job.
-pub fn ask(s: State, job: u64) -> AskAnswer
+pub fn ask(s: State, job: u64) -> Result<u32, Refusal>
     ensures { ask_gave result s ≡ ask_reply s job }
 {
     if !soundness::sound(s) {
-        return AskAnswer::Refused(1);
+        return Err(Refusal::Unsound);
     }
     if 32 <= job {
-        return AskAnswer::Refused(11);
+        return Err(Refusal::Job);
     }
     let j = job as usize;
-    let g = s.jobs;
-    if !g.present[j] {
-        return AskAnswer::Refused(11);
+    if !s.jobs.present[j] {
+        return Err(Refusal::Job);
     }
-    AskAnswer::Overtakers(g.overtakers[j])
+    Ok(s.jobs.overtakers[j])
 }
 
 // The board text at the front of the lent buffer; bytes past it stay.
-pub fn board(s: State, buffer: &mut [u8]) -> BoardAnswer
+pub fn board(s: State, buffer: &mut [u8]) -> Result<u64, Refusal>
     ensures { board_gave result s buffer.new ≡ board_reply s buffer.old }
 {
     if !soundness::sound(s) {
-        return BoardAnswer::Refused(1);
+        return Err(Refusal::Unsound);
     }
     let count = s.setup.destinations;
     let ds = s.destinations;
     let busy = s.busy.destination;
     let need = board::text_length(s.clock, count, ds, busy);
     if buffer.len() < need {
-        return BoardAnswer::Refused(10);
+        return Err(Refusal::Room);
     }
     let n = board::write(s.clock, count, ds, busy, buffer);
-    BoardAnswer::Written(n as u64)
+    Ok(n as u64)
 }

@@ -14,7 +14,7 @@ fn put_clock(clock: u32, buf: &mut [u8]) -> usize
     requires { length (clock_line clock) ≤ length buf.old }
     ensures { Wrote (clock_line clock) buf.old buf.new result }
 {
-    let mut at = put_number(b"AT ", clock as u64, buf);
+    let mut at = put_number(b"AT ", u64::from(clock), buf);
     at += put(b"\n", &mut buf[at..]);
     at
 }
@@ -25,7 +25,7 @@ fn put_live(window: u64, busy: u16, buf: &mut [u8]) -> usize
 {
     let mut at = put(b"LIVE", buf);
     at += put_number(b" ", window, &mut buf[at..]);
-    at += put_number(b" ", busy as u64, &mut buf[at..]);
+    at += put_number(b" ", u64::from(busy), &mut buf[at..]);
     at
 }
 
@@ -65,7 +65,7 @@ fn health_length(h: Health, busy: u16) -> usize
     ensures { result ≡ length (health_text h busy) }
 {
     match h {
-        Health::Live(u) => 5 + decimal_length(u.window) + 1 + decimal_length(busy as u64),
+        Health::Live(u) => 5 + decimal_length(u.window) + 1 + decimal_length(u64::from(busy)),
         Health::Dead(end) => 5 + decimal_length(end),
     }
 }
@@ -81,15 +81,9 @@ pub fn text_length(clock: u32, count: u64, ds: [Destination; 32], busy: [u16; 32
     requires { count ≤ 32 }
     ensures { result ≡ length (text_of clock count ds busy) }
 {
-    let mut total = 3 + decimal_length(clock as u64) + 1;
-    let n = count as usize;
-    let mut d: usize = 0;
-    while d < n {
-        let x = ds[d];
-        let h = x.health;
-        let b = busy[d];
-        total += line_length(d as u64, h, b);
-        d += 1;
+    let mut total = 3 + decimal_length(u64::from(clock)) + 1;
+    for d in 0..count as usize {
+        total += line_length(d as u64, ds[d].health, busy[d]);
     }
     total
 }
@@ -106,14 +100,8 @@ pub fn write(
     ensures { Wrote (text_of clock count ds busy) buf.old buf.new result }
 {
     let mut at = put_clock(clock, buf);
-    let n = count as usize;
-    let mut d: usize = 0;
-    while d < n {
-        let x = ds[d];
-        let h = x.health;
-        let b = busy[d];
-        at += put_line(d as u64, h, b, &mut buf[at..]);
-        d += 1;
+    for d in 0..count as usize {
+        at += put_line(d as u64, ds[d].health, busy[d], &mut buf[at..]);
     }
     at
 }

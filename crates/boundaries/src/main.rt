@@ -27,9 +27,9 @@ mod searched;
 
 ghost use Rattle.std.specs.Prelude.{◌*◌, ◌≤◌, length};
 
-use calling::Reply;
+use cases::reading::{Asked, Repeat};
 use cases::{bits, change, lent, reading};
-use lines::text::{find, same};
+use lines::answer::Reply;
 use lines::{answer, input, text};
 use rules::{Outcome, PickAnswer, State};
 use std::io;
@@ -43,21 +43,22 @@ struct Desk {
 }
 
 fn main(rt: HostRuntime) -> io::Result<()> {
-    let mut cases_space = [0u8; 65536];
-    let cases: &mut [u8] = &mut cases_space;
+    let mut cases = [0; 65536];
     // the most numbers that a line of so many bytes holds
-    let mut words_space = [0u64; 32768];
-    let words: &mut [u64] = &mut words_space;
+    let mut words = [0; 32768];
     // longer than a report needs
-    let mut list_space = [0u16; 600];
-    let list: &mut [u16] = &mut list_space;
-    let mut text_space = [0u8; 4096];
-    let written: &mut [u8] = &mut text_space;
-    let mut out_space = [0u8; 8192];
-    let out: &mut [u8] = &mut out_space;
-    let mut from = rt.reader();
-    let mut to = io::writer(&rt);
-    run(&mut from, &mut to, cases, words, list, written, out)
+    let mut list = [0; 600];
+    let mut written = [0; 4096];
+    let mut out = [0; 8192];
+    run(
+        &mut rt.reader(),
+        &mut io::writer(&rt),
+        &mut cases,
+        &mut words,
+        &mut list,
+        &mut written,
+        &mut out,
+    )
 }
 
 fn run<R: Read, W: Write>(
@@ -77,12 +78,11 @@ fn run<R: Read, W: Write>(
         state: zeros,
         kept: zeros,
     };
-    let mut at: usize = 0;
+    let mut at = 0;
     while at < n {
-        let start = at;
-        let end = find(cases, start, n, 10);
+        let end = text::find(cases, at, n, b'\n');
+        desk = step(to, &cases[at..end], words, list, written, out, desk)?;
         at = end + 1;
-        desk = step(to, &cases[start..end], words, list, written, out, desk)?;
     }
     Ok(())
 }
@@ -100,28 +100,31 @@ fn step<W: Write>(
     requires { length line.now ≤ 2 * length words.old }
 {
     to.write_all(line)?;
-    let s = desk.state;
-    let kept = desk.kept;
-    if same(line, b"keep") {
-        write_answer(to, out, 0)?;
-        return Ok(Desk { state: s, kept: s });
+    match line {
+        b"keep" => {
+            write_answer(to, out, 0)?;
+            Ok(Desk {
+                state: desk.state,
+                kept: desk.state,
+            })
+        }
+        b"back" => {
+            write_answer(to, out, 0)?;
+            Ok(Desk {
+                state: desk.kept,
+                kept: desk.kept,
+            })
+        }
+        _ => {
+            let Repeat { count, start } = reading::read_repeat(line);
+            let r = times(count, &line[start..], words, list, written, out, desk.state);
+            write_answer(to, out, r.length)?;
+            Ok(Desk {
+                state: r.state,
+                kept: desk.kept,
+            })
+        }
     }
-    if same(line, b"back") {
-        write_answer(to, out, 0)?;
-        return Ok(Desk {
-            state: kept,
-            kept: kept,
-        });
-    }
-    let c = reading::read_repeat(line);
-    let start = c.start;
-    let r = times(c.count, &line[start..], words, list, written, out, s);
-    write_answer(to, out, r.length)?;
-    let next = r.state;
-    Ok(Desk {
-        state: next,
-        kept: kept,
-    })
 }
 
 // An answer of n bytes, its line end among them; a line end where there is none.
@@ -140,15 +143,13 @@ fn times(
     list: &mut [u16],
     written: &mut [u8],
     out: &mut [u8],
-    s: State,
+    state: State,
 ) -> Reply
     requires { length line.now ≤ 2 * length words.old }
 {
-    let mut r = calling::left(s, 0);
-    let mut left = count;
-    while 0 < left {
+    let mut r = Reply { state, length: 0 };
+    for _ in 0..count {
         r = once(line, words, list, written, out, r.state);
-        left -= 1;
     }
     r
 }
@@ -159,66 +160,66 @@ fn once(
     list: &mut [u16],
     written: &mut [u8],
     out: &mut [u8],
-    s: State,
+    state: State,
 ) -> Reply
     requires { length line.now ≤ 2 * length words.old }
 {
-    let n = line.len();
-    let end = find(line, 0, n, 32);
-    let kind = reading::kind_of(&line[..end]);
-    if 6 < kind {
-        return changing(kind, &line[end..], words, out, s);
+    let end = text::find(line, 0, line.len(), b' ');
+    let (name, rest) = line.split_at(end);
+    let asked = reading::what_is(name);
+    if matches!(asked, Asked::Set | Asked::Broken | Asked::Range) {
+        return changing(asked, rest, words, out, state);
     }
-    let got = text::read_numbers(line, end, words);
-    let k = got.count;
-    if !reading::fits(got.whole, kind, k) {
-        let m = answer::malformed(out);
-        return calling::left(s, m);
+    let Some(k) = text::read_numbers(rest, 0, words) else {
+        return malformed(out, state);
+    };
+    if !reading::fits(asked, k) {
+        return malformed(out, state);
     }
-    if kind == 5 {
-        return searching(words, out, s);
+    if asked == Asked::Call {
+        return calling(name, k, words, list, written, out, state);
     }
-    if kind != 0 {
-        let a = text::word(words, 0);
-        let b = text::word(words, 1);
-        return looking(kind, a, b, list, written, out, s);
+    if asked == Asked::Sequence {
+        return sequence(text::word(words, 0), text::word(words, 1), list, out, state);
     }
-    calling(&line[..end], k, words, list, written, out, s)
+    Reply {
+        state,
+        length: looking(asked, words, list, written, out, state),
+    }
 }
 
-// What is behind the name 5.
-fn searching(words: &[u64], out: &mut [u8], s: State) -> Reply {
-    let now = text::word(words, 0);
-    let t = text::word(words, 1);
-    let y = text::word(words, 2);
-    let most = text::word(words, 3);
-    let n = searched::put_search(out, s, now, t, y, most);
-    calling::left(s, n)
+fn malformed(out: &mut [u8], state: State) -> Reply {
+    Reply {
+        state,
+        length: answer::malformed(out),
+    }
 }
 
-// What is behind the other names 1 to 6.
+// What is looked at: in a lent buffer, in the search for who preempts, or in the state.
 fn looking(
-    kind: u8,
-    a: u64,
-    b: u64,
-    list: &mut [u16],
+    asked: Asked,
+    words: &[u64],
+    list: &[u16],
     written: &[u8],
     out: &mut [u8],
     s: State,
-) -> Reply {
-    if kind == 1 {
-        let n = lent::put_places(out, list, a, b);
-        return calling::left(s, n);
+) -> usize {
+    let a = text::word(words, 0);
+    let b = text::word(words, 1);
+    match asked {
+        Asked::List => lent::put_places(out, list, a, b),
+        Asked::Text => lent::put_text(out, written, a, b),
+        Asked::Bytes => lent::put_bytes(out, written, a, b),
+        Asked::Look => searched::put_search(
+            out,
+            s,
+            a,
+            b,
+            text::word(words, 2),
+            text::word(words, 3),
+        ),
+        _ => bits::put_bits(out, s),
     }
-    if kind < 4 {
-        let n = lent::put_bytes(out, written, a, b, kind == 3);
-        return calling::left(s, n);
-    }
-    if kind == 4 {
-        return sequence(a, b, list, out, s);
-    }
-    let n = bits::put_bits(out, s);
-    calling::left(s, n)
 }
 
 // One of the six calls, with the first k words.
@@ -239,69 +240,65 @@ fn calling(
 }
 
 // What stands behind the name: a field and its numbers.
-fn changing(kind: u8, rest: &[u8], words: &mut [u64], out: &mut [u8], s: State) -> Reply
+fn changing(asked: Asked, rest: &[u8], words: &mut [u64], out: &mut [u8], state: State) -> Reply
     requires { length rest.now ≤ 2 * length words.old }
 {
-    let n = rest.len();
     let from = text::skip_blanks(rest, 0);
-    let to = find(rest, from, n, 32);
-    let got = text::read_numbers(rest, to, words);
-    let k = got.count;
-    if !got.whole {
-        let m = answer::malformed(out);
-        return calling::left(s, m);
+    let to = text::find(rest, from, rest.len(), b' ');
+    let Some(k) = text::read_numbers(rest, to, words) else {
+        return malformed(out, state);
+    };
+    let Some(next) = change::changed(&rest[from..to], &words[..k], state) else {
+        return malformed(out, state);
+    };
+    match asked {
+        Asked::Set => Reply {
+            state: next,
+            length: 0,
+        },
+        Asked::Broken => Reply {
+            state,
+            length: answer::ask(out, scheduler::ask(next, 0)),
+        },
+        _ => Reply {
+            state,
+            length: calling::start(next.setup, out).length,
+        },
     }
-    if !change::is_field(&rest[from..to]) {
-        let m = answer::malformed(out);
-        return calling::left(s, m);
-    }
-    let next = change::changed(&rest[from..to], &words[..k], s);
-    after_change(kind, out, s, next)
-}
-
-fn after_change(kind: u8, out: &mut [u8], s: State, next: State) -> Reply {
-    if kind == 7 {
-        return calling::left(next, 0);
-    }
-    if kind == 8 {
-        let a = scheduler::ask(next, 0);
-        let n = answer::ask(out, a);
-        return calling::left(s, n);
-    }
-    let r = calling::start(next.setup, out);
-    calling::left(s, r.length)
 }
 
 // Stops early where nothing is picked.
-fn sequence(now: u64, count: u64, list: &mut [u16], out: &mut [u8], s: State) -> Reply {
-    let mut left = count;
-    let mut at: usize = 0;
-    let mut state = s;
-    while 0 < left {
-        let r = scheduler::pick(state, now);
-        let a = r.answer;
-        state = r.state;
-        let PickAnswer::Picked {
-            job,
-            entry,
-            ticket,
-            passed,
-        } = a
+fn sequence(now: u64, count: u64, list: &mut [u16], out: &mut [u8], mut state: State) -> Reply {
+    let mut at = 0;
+    for _ in 0..count {
+        let picked = scheduler::pick(state, now);
+        state = picked.state;
+        let Ok(
+            Some(
+                PickAnswer {
+                    job,
+                    entry,
+                    ticket,
+                    ..
+                },
+            ),
+        ) = picked.answer
         else {
             break;
         };
-        at = answer::put_decimal(out, at, (job as u64) + 1);
+        at = answer::put_decimal(out, at, u64::from(job) + 1);
         let reported = scheduler::report(
             state,
             now,
-            entry as u64,
-            ticket as u64,
+            u64::from(entry),
+            u64::from(ticket),
             Outcome::Success,
             list,
         );
         state = reported.state;
-        left -= 1;
     }
-    let n = answer::put_byte(out, at, 10);
-    calling::left(state, n)
+    Reply {
+        state,
+        length: answer::put_byte(out, at, b'\n'),
+    }
 }

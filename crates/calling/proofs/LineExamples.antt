@@ -5,13 +5,12 @@ use mathlib.Core.List.{List, [], ◌∷◌}
 use Rattle.laws.specs.Bools.{when◌then◌else◌}
 use Rattle.laws.specs.Sequence.{every_in}
 use Rattle.rules.specs.declared.Outcome.{Outcome}
-use Rattle.rules.specs.declared.Outcome.TheVariants
 use Rattle.rules.specs.Setup.{zero_state}
 use Rattle.rules.specs.Board.{decimal_in, decimal}
 use Rattle.rules.specs.Calls.{Says, Reply, job, pick, report, ask, board, outcome_of, refused, granted}
 use Rattle.lines.specs.Words.{longer, pieces, not_empty, words_of, same_bytes, value_from, value_of, is_number, all_numbers}
 use Rattle.lines.specs.Texts.{numbers, shown_byte}
-use Rattle.calling.specs.Meaning.{Line, nothing, malformed, call, job_line, pick_line, report_line, call_line, meaning_of_words, meaning_of}
+use Rattle.calling.specs.Meaning.{nothing, malformed, call, job_line, pick_line, report_line, call_line, meaning_of_words, meaning_of}
 use Rattle.calling.specs.Replies.{values_text, reply_text}
 
 pub lines_say :

@@ -75,14 +75,3 @@ state_on s nothing = s
 state_on s malformed = s
 state_on s (setup u) = (setup_reply u).state
 state_on s (call c) = (reply_to s c).state
-
--- How the code numbers the names; 0 for any other.
-unfoldable pub kind_of : List ℕ → ℕ
-kind_of name =
-    when same_bytes name setup_name then 1
-    else when same_bytes name job_name then 2
-    else when same_bytes name pick_name then 3
-    else when same_bytes name report_name then 4
-    else when same_bytes name ask_name then 5
-    else when same_bytes name board_name then 6
-    else 0

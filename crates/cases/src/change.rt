@@ -12,259 +12,163 @@
 //     order PLACE X                                   job J's destination order begins at 32 times J
 //     kind E X, job E X, destination E X, stamp E X   of an entry; stamp is its ticket
 //
-// A place past the end stands for the last one.
-use lines::text;
-use lines::text::{find, same, word};
-use rules::{
-    Busy, Destination, Entries, Feedback, Health, JobList, Jobs, Settings, Setup, State, Sums,
-};
+// A place past the end stands for the last one, and of a number that is too large the low bits.
+use lines::text::{at_most, word};
+use rules::{Busy, Destination, Entries, Health, JobList, Jobs, Settings, Setup, State, Sums};
 
-pub fn is_field(field: &[u8]) -> bool {
-    if is_among(
-        field,
-        b"clock ticket turn transports destinations home live dead busytransport busydestination",
-    ) {
-        return true;
-    }
-    if is_among(
-        field,
-        b"agents cost loan discount minimum limit initial positive positiveform negative negativeform",
-    ) {
-        return true;
-    }
-    if is_among(
-        field,
-        b"cohortlimit suspension queue queuecount arrivals arrivalscount kind job destination stamp",
-    ) {
-        return true;
-    }
-    is_among(
-        field,
-        b"present transport n picked dropped sold parent preempted arrival overtakers jobturn places order",
-    )
+// The state with that field changed; none where no field has the name.
+pub fn changed(field: &[u8], w: &[u64], mut s: State) -> Option<State> {
+    let known = change_state(field, word(w, 0), &mut s)
+        || change_setup(field, w, &mut s.setup)
+        || change_settings(
+            field,
+            word(w, 1),
+            &mut s.setup.settings[at_most(word(w, 0), 3)],
+        )
+        || change_destination(field, w, &mut s.destinations[at_most(word(w, 0), 31)])
+        || change_busy(field, w, &mut s.busy)
+        || change_queue(field, w, &mut s.queues[at_most(word(w, 0), 3)])
+        || change_arrivals(field, w, &mut s.arrivals)
+        || change_job(field, w, &mut s.jobs)
+        || change_entry(field, w, &mut s.entries);
+    known.then_some(s)
 }
 
-// Whether it is one of the names, which are parted by blanks.
-fn is_among(word: &[u8], names: &[u8]) -> bool {
-    let mut at: usize = 0;
-    while at < names.len() {
-        let start = at;
-        let end = find(names, start, names.len(), 32);
-        at = end + 1;
-        if same(word, &names[start..end]) {
-            return true;
-        }
+// Each of these changes one of its fields, and answers whether one has that name.
+
+fn change_state(field: &[u8], x: u64, s: &mut State) -> bool {
+    match field {
+        b"clock" => s.clock = low_32(x),
+        b"ticket" => s.ticket = low_32(x),
+        b"turn" => s.turn = low_8(x),
+        _ => return false,
     }
-    false
+    true
 }
 
-pub fn changed(field: &[u8], w: &[u64], s: State) -> State {
+fn change_setup(field: &[u8], w: &[u64], u: &mut Setup) -> bool {
     let x = word(w, 0);
-    let u = setup_changed(field, w, s.setup);
-    let ds = s.destinations;
-    let destinations = destinations_changed(field, w, ds);
-    let b = busy_changed(field, w, s.busy);
-    let qs = s.queues;
-    let queues = queues_changed(field, w, qs);
-    let l = list_changed(field, b"arrivals", b"arrivalscount", w, s.arrivals);
-    let j = jobs_changed(field, w, s.jobs);
-    let e = entries_changed(field, w, s.entries);
-    State {
-        setup: u,
-        clock: new32(field, b"clock", s.clock, x),
-        ticket: new32(field, b"ticket", s.ticket, x),
-        turn: new8(field, b"turn", s.turn, x),
-        destinations: destinations,
-        busy: b,
-        queues: queues,
-        arrivals: l,
-        jobs: j,
-        entries: e,
+    match field {
+        b"transports" => u.transports = x,
+        b"destinations" => u.destinations = x,
+        b"home" => u.home[at_most(x, 31)] = word(w, 1),
+        _ => return false,
     }
+    true
 }
 
-// The new number where the field has that name, else the old one.
-
-fn new64(field: &[u8], name: &[u8], old: u64, new: u64) -> u64 {
-    if same(field, name) { new } else { old }
-}
-
-fn new32(field: &[u8], name: &[u8], old: u32, new: u64) -> u32 {
-    if same(field, name) {
-        (new % 4294967296) as u32
-    } else {
-        old
+fn change_settings(field: &[u8], x: u64, g: &mut Settings) -> bool {
+    match field {
+        b"agents" => g.agents = x,
+        b"cost" => g.cost = x,
+        b"loan" => g.loan = x,
+        b"discount" => g.discount = x,
+        b"minimum" => g.minimum = x,
+        b"limit" => g.limit = x,
+        b"initial" => g.initial = x,
+        b"positive" => g.positive.percent = x,
+        b"positiveform" => g.positive.form = x,
+        b"negative" => g.negative.percent = x,
+        b"negativeform" => g.negative.form = x,
+        b"cohortlimit" => g.cohortlimit = x,
+        b"suspension" => g.suspension = x,
+        _ => return false,
     }
+    true
 }
 
-fn new16(field: &[u8], name: &[u8], old: u16, new: u64) -> u16 {
-    if same(field, name) {
-        (new % 65536) as u16
-    } else {
-        old
-    }
-}
-
-fn new8(field: &[u8], name: &[u8], old: u8, new: u64) -> u8 {
-    if same(field, name) {
-        (new % 256) as u8
-    } else {
-        old
-    }
-}
-
-fn new_bool(field: &[u8], name: &[u8], old: bool, new: u64) -> bool {
-    if same(field, name) { new != 0 } else { old }
-}
-
-fn setup_changed(field: &[u8], w: &[u64], u: Setup) -> Setup {
-    let x = word(w, 0);
-    let y = word(w, 1);
-    let t = text::at_most(x, 3);
-    let d = text::at_most(x, 31);
-    let mut settings = u.settings;
-    let g = settings[t];
-    settings[t] = settings_changed(field, y, g);
-    let mut home = u.home;
-    home[d] = new64(field, b"home", home[d], y);
-    Setup {
-        transports: new64(field, b"transports", u.transports, x),
-        settings: settings,
-        destinations: new64(field, b"destinations", u.destinations, x),
-        home: home,
-    }
-}
-
-fn settings_changed(field: &[u8], x: u64, g: Settings) -> Settings {
-    let p = g.positive;
-    let n = g.negative;
-    let positive = Feedback {
-        percent: new64(field, b"positive", p.percent, x),
-        form: new64(field, b"positiveform", p.form, x),
-    };
-    let negative = Feedback {
-        percent: new64(field, b"negative", n.percent, x),
-        form: new64(field, b"negativeform", n.form, x),
-    };
-    Settings {
-        agents: new64(field, b"agents", g.agents, x),
-        cost: new64(field, b"cost", g.cost, x),
-        loan: new64(field, b"loan", g.loan, x),
-        discount: new64(field, b"discount", g.discount, x),
-        minimum: new64(field, b"minimum", g.minimum, x),
-        limit: new64(field, b"limit", g.limit, x),
-        initial: new64(field, b"initial", g.initial, x),
-        positive: positive,
-        negative: negative,
-        cohortlimit: new64(field, b"cohortlimit", g.cohortlimit, x),
-        suspension: new64(field, b"suspension", g.suspension, x),
-    }
-}
-
-fn destinations_changed(field: &[u8], w: &[u64], ds: [Destination; 32]) -> [Destination; 32] {
-    let d = text::at_most(word(w, 0), 31);
-    let mut next = ds;
-    let old = next[d];
-    next[d] = destination_changed(field, w, old);
-    next
-}
-
-fn destination_changed(field: &[u8], w: &[u64], d: Destination) -> Destination {
-    if same(field, b"live") {
-        let u = Sums {
+fn change_destination(field: &[u8], w: &[u64], d: &mut Destination) -> bool {
+    d.health = match field {
+        b"live" => Health::Live(Sums {
             window: word(w, 1),
             success: word(w, 2),
             failure: word(w, 3),
             cohorts: word(w, 4),
-        };
-        return Destination {
-            health: Health::Live(u),
-        };
+        }),
+        b"dead" => Health::Dead(word(w, 1)),
+        _ => return false,
+    };
+    true
+}
+
+fn change_busy(field: &[u8], w: &[u64], b: &mut Busy) -> bool {
+    let x = low_16(word(w, 1));
+    match field {
+        b"busytransport" => b.transport[at_most(word(w, 0), 3)] = x,
+        b"busydestination" => b.destination[at_most(word(w, 0), 31)] = x,
+        _ => return false,
     }
-    if same(field, b"dead") {
-        return Destination {
-            health: Health::Dead(word(w, 1)),
-        };
+    true
+}
+
+// With no number at all the list stays.
+fn change_queue(field: &[u8], w: &[u64], q: &mut JobList) -> bool {
+    let Some((_, w)) = w.split_first() else {
+        return matches!(field, b"queue" | b"queuecount");
+    };
+    change_list(field, b"queue", b"queuecount", w, q)
+}
+
+fn change_arrivals(field: &[u8], w: &[u64], l: &mut JobList) -> bool {
+    change_list(field, b"arrivals", b"arrivalscount", w, l)
+}
+
+fn change_job(field: &[u8], w: &[u64], g: &mut Jobs) -> bool {
+    let j = at_most(word(w, 0), 31);
+    let x = word(w, 1);
+    match field {
+        b"present" => g.present[j] = x != 0,
+        b"transport" => g.transport[j] = low_8(x),
+        b"n" => g.n[j] = low_16(x),
+        b"picked" => g.picked[j] = low_16(x),
+        b"dropped" => g.dropped[j] = low_16(x),
+        b"sold" => g.sold[j] = low_16(x),
+        b"parent" => g.parent[j] = low_8(x),
+        b"preempted" => g.preempted[j] = x != 0,
+        b"arrival" => g.arrival[j] = low_32(x),
+        b"overtakers" => g.overtakers[j] = low_32(x),
+        b"jobturn" => g.turn[j] = low_8(x),
+        b"places" => g.places[j] = low_8(x),
+        b"order" => g.order[at_most(word(w, 0), 1023)] = low_8(x),
+        _ => return false,
     }
-    d
+    true
 }
 
-fn busy_changed(field: &[u8], w: &[u64], b: Busy) -> Busy {
-    let t = text::at_most(word(w, 0), 3);
-    let d = text::at_most(word(w, 0), 31);
+fn change_entry(field: &[u8], w: &[u64], e: &mut Entries) -> bool {
+    let i = at_most(word(w, 0), 511);
     let x = word(w, 1);
-    let mut next = b;
-    next.transport[t] = new16(field, b"busytransport", b.transport[t], x);
-    next.destination[d] = new16(field, b"busydestination", b.destination[d], x);
-    next
-}
-
-fn queues_changed(field: &[u8], w: &[u64], qs: [JobList; 4]) -> [JobList; 4] {
-    let t = text::at_most(word(w, 0), 3);
-    let mut next = qs;
-    let l = next[t];
-    if 0 < w.len() {
-        next[t] = list_changed(field, b"queue", b"queuecount", &w[1..], l);
+    match field {
+        b"kind" => e.kind[i] = low_8(x),
+        b"job" => e.job[i] = low_8(x),
+        b"destination" => e.destination[i] = low_8(x),
+        b"stamp" => e.ticket[i] = low_32(x),
+        _ => return false,
     }
-    next
+    true
 }
 
-fn list_changed(field: &[u8], places: &[u8], count: &[u8], w: &[u64], l: JobList) -> JobList {
-    let i = text::at_most(word(w, 0), 31);
-    let mut next = l;
-    next.jobs[i] = new8(field, places, l.jobs[i], word(w, 1));
-    next.count = new8(field, count, l.count, word(w, 0));
-    next
+fn change_list(field: &[u8], places: &[u8], count: &[u8], w: &[u64], l: &mut JobList) -> bool {
+    if field == places {
+        l.jobs[at_most(word(w, 0), 31)] = low_8(word(w, 1));
+    } else if field == count {
+        l.count = low_8(word(w, 0));
+    } else {
+        return false;
+    }
+    true
 }
 
-fn jobs_changed(field: &[u8], w: &[u64], g: Jobs) -> Jobs {
-    let a = counts_changed(field, w, g);
-    let b = standing_changed(field, w, a);
-    links_changed(field, w, b)
+// The low bits of a number.
+
+fn low_8(x: u64) -> u8 {
+    (x % 256) as u8
 }
 
-fn counts_changed(field: &[u8], w: &[u64], g: Jobs) -> Jobs {
-    let j = text::at_most(word(w, 0), 31);
-    let x = word(w, 1);
-    let mut next = g;
-    next.n[j] = new16(field, b"n", g.n[j], x);
-    next.picked[j] = new16(field, b"picked", g.picked[j], x);
-    next.dropped[j] = new16(field, b"dropped", g.dropped[j], x);
-    next.sold[j] = new16(field, b"sold", g.sold[j], x);
-    next
+fn low_16(x: u64) -> u16 {
+    (x % 65536) as u16
 }
 
-fn standing_changed(field: &[u8], w: &[u64], g: Jobs) -> Jobs {
-    let j = text::at_most(word(w, 0), 31);
-    let x = word(w, 1);
-    let mut next = g;
-    next.present[j] = new_bool(field, b"present", g.present[j], x);
-    next.transport[j] = new8(field, b"transport", g.transport[j], x);
-    next.arrival[j] = new32(field, b"arrival", g.arrival[j], x);
-    next.overtakers[j] = new32(field, b"overtakers", g.overtakers[j], x);
-    next
-}
-
-fn links_changed(field: &[u8], w: &[u64], g: Jobs) -> Jobs {
-    let j = text::at_most(word(w, 0), 31);
-    let i = text::at_most(word(w, 0), 1023);
-    let x = word(w, 1);
-    let mut next = g;
-    next.parent[j] = new8(field, b"parent", g.parent[j], x);
-    next.preempted[j] = new_bool(field, b"preempted", g.preempted[j], x);
-    next.turn[j] = new8(field, b"jobturn", g.turn[j], x);
-    next.places[j] = new8(field, b"places", g.places[j], x);
-    next.order[i] = new8(field, b"order", g.order[i], x);
-    next
-}
-
-fn entries_changed(field: &[u8], w: &[u64], e: Entries) -> Entries {
-    let i = text::at_most(word(w, 0), 511);
-    let x = word(w, 1);
-    let mut next = e;
-    next.kind[i] = new8(field, b"kind", e.kind[i], x);
-    next.job[i] = new8(field, b"job", e.job[i], x);
-    next.destination[i] = new8(field, b"destination", e.destination[i], x);
-    next.ticket[i] = new32(field, b"stamp", e.ticket[i], x);
-    next
+fn low_32(x: u64) -> u32 {
+    (x % 4294967296) as u32
 }

@@ -1,67 +1,42 @@
 // The buffers that are lent to a call: filled before it, shown after it.
 ghost use Rattle.std.specs.Prelude.{◌≤◌, length};
 
-use lines::text::same;
 use lines::{answer, text};
 
 // Puts in what no call writes, so that a place that was written shows.
 pub fn fill(list: &mut [u16], written: &mut [u8]) {
-    fill_list(list);
-    fill_text(written);
-}
-
-fn fill_list(list: &mut [u16]) {
-    let mut i: usize = 0;
-    while i < list.len() {
-        list[i] = 999;
-        i += 1;
-    }
-}
-
-fn fill_text(written: &mut [u8]) {
-    let mut i: usize = 0;
-    while i < written.len() {
-        written[i] = 46;
-        i += 1;
-    }
+    list.fill(999);
+    written.fill(b'.');
 }
 
 // The list's places from a up to before b.
 pub fn put_places(out: &mut [u8], list: &[u16], a: u64, b: u64) -> usize {
     let end = text::at_most(b, list.len());
-    let mut i = text::at_most(a, end);
     let mut at = answer::put(out, 0, b"list");
-    while i < end {
-        at = answer::put_number(out, at, answer::wide(list[i]));
-        i += 1;
+    for &x in &list[text::at_most(a, end)..end] {
+        at = answer::put_number(out, at, u64::from(x));
     }
-    answer::put_byte(out, at, 10)
+    answer::put_byte(out, at, b'\n')
 }
 
-// The text's bytes likewise: each as it is, a line end as a '|', or each as a number.
-pub fn put_bytes(out: &mut [u8], written: &[u8], a: u64, b: u64, numbers: bool) -> usize {
+// The text's bytes likewise: each as it is, a line end as a '|'.
+pub fn put_text(out: &mut [u8], written: &[u8], a: u64, b: u64) -> usize {
     let end = text::at_most(b, written.len());
-    let mut i = text::at_most(a, end);
-    let mut at = put_name(out, numbers);
-    while i < end {
-        at = put_one(out, at, written[i], numbers);
-        i += 1;
+    let mut at = answer::put(out, 0, b"text ");
+    for &x in &written[text::at_most(a, end)..end] {
+        at = answer::put_byte(out, at, answer::shown(x));
     }
-    answer::put_byte(out, at, 10)
+    answer::put_byte(out, at, b'\n')
 }
 
-fn put_name(out: &mut [u8], numbers: bool) -> usize {
-    if numbers {
-        return answer::put(out, 0, b"bytes");
+// Or each as a number.
+pub fn put_bytes(out: &mut [u8], written: &[u8], a: u64, b: u64) -> usize {
+    let end = text::at_most(b, written.len());
+    let mut at = answer::put(out, 0, b"bytes");
+    for &x in &written[text::at_most(a, end)..end] {
+        at = answer::put_number(out, at, u64::from(x));
     }
-    answer::put(out, 0, b"text ")
-}
-
-fn put_one(out: &mut [u8], at: usize, b: u8, numbers: bool) -> usize {
-    if numbers {
-        return answer::put_number(out, at, b as u64);
-    }
-    answer::put_byte(out, at, answer::shown(b))
+    answer::put_byte(out, at, b'\n')
 }
 
 // Repeats a job's destinations, which stand behind its first four words, until they are as many as the fourth says or
@@ -70,19 +45,13 @@ pub fn spread(name: &[u8], words: &mut [u64], k: usize) -> usize
     requires { k ≤ length words.old }
     ensures { result ≤ length words.new }
 {
-    if k < 5 {
-        return k;
-    }
-    if !same(name, b"job") {
+    if k < 5 || name != b"job".as_slice() {
         return k;
     }
     let given = k - 4;
     let end = text::at_most(words[3], words.len() - 4) + 4;
-    let mut i = k;
-    while i < end {
-        let d = words[i - given];
-        words[i] = d;
-        i += 1;
+    for i in k..end {
+        words[i] = words[i - given];
     }
-    i
+    end.max(k)
 }

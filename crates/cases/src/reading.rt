@@ -1,8 +1,7 @@
-// How a line of cases is read: how often, which name, whether its words fit.
+// How a line of cases is read: how often, what it asks for, whether its words fit.
 ghost use Rattle.std.specs.Prelude.{◌≡◌, ◌≤◌, length};
 
 use lines::text;
-use lines::text::{Number, find, same};
 
 // How many times a line's call is made, and where the call begins.
 #[derive(Drop)]
@@ -14,75 +13,55 @@ pub struct Repeat {
 pub fn read_repeat(line: &[u8]) -> Repeat
     ensures { result.start ≤ length line.now }
 {
-    let n = line.len();
-    if n == 0 {
-        return from_front(0);
+    if line.is_empty() || line[0] == b'#' {
+        return Repeat { count: 0, start: 0 };
     }
-    if line[0] == 35 {
-        return from_front(0);
-    }
-    let end = find(line, 0, n, 32);
-    let Number::Is(count) = text::read_number(&line[..end]) else {
-        return from_front(1);
-    };
-    let start = text::skip_blanks(line, end);
-    Repeat {
-        count: count,
-        start: start,
+    let end = text::find(line, 0, line.len(), b' ');
+    match text::read_number(&line[..end]) {
+        Some(count) => Repeat {
+            count,
+            start: text::skip_blanks(line, end),
+        },
+        None => Repeat { count: 1, start: 0 },
     }
 }
 
-fn from_front(count: u64) -> Repeat
-    ensures { result.start ≡ 0 }
-{
-    Repeat {
-        count: count,
-        start: 0,
+// What a line asks for, by its name: to look at something, to change a field, or a call, which any other name is.
+#[derive(Clone, Copy, PartialEq, Eq)]
+pub enum Asked {
+    List,
+    Text,
+    Bytes,
+    Sequence,
+    Look,
+    Bits,
+    Set,
+    Broken,
+    Range,
+    Call,
+}
+
+pub fn what_is(name: &[u8]) -> Asked {
+    match name {
+        b"list" => Asked::List,
+        b"text" => Asked::Text,
+        b"bytes" => Asked::Bytes,
+        b"sequence" => Asked::Sequence,
+        b"look" => Asked::Look,
+        b"bits" => Asked::Bits,
+        b"set" => Asked::Set,
+        b"broken" => Asked::Broken,
+        b"range" => Asked::Range,
+        _ => Asked::Call,
     }
 }
 
-// A number for each name that is no call's: what looks at something, then what changes something. 0 for any other.
-pub fn kind_of(name: &[u8]) -> u8 {
-    if same(name, b"list") {
-        return 1;
+// Whether the numbers are as many as it takes where something is looked at: none for `bits`, four for `look`, else two.
+pub fn fits(asked: Asked, k: usize) -> bool {
+    match asked {
+        Asked::Call => true,
+        Asked::Look => k == 4,
+        Asked::Bits => k == 0,
+        _ => k == 2,
     }
-    if same(name, b"text") {
-        return 2;
-    }
-    if same(name, b"bytes") {
-        return 3;
-    }
-    if same(name, b"sequence") {
-        return 4;
-    }
-    if same(name, b"look") {
-        return 5;
-    }
-    if same(name, b"bits") {
-        return 6;
-    }
-    if same(name, b"set") {
-        return 7;
-    }
-    if same(name, b"broken") {
-        return 8;
-    }
-    if same(name, b"range") {
-        return 9;
-    }
-    0
-}
-
-// Whether all words were numbers, and as many as it takes where something is looked at: none for `bits`, four for `look`, else two.
-pub fn fits(whole: bool, kind: u8, k: usize) -> bool {
-    if kind == 0 {
-        return whole;
-    }
-    if kind == 5 {
-        return whole & (k == 4);
-    }
-    if kind == 6 {
-        return whole & (k == 0);
-    }
-    whole & (k == 2)
 }

@@ -12,23 +12,20 @@ ghost use Rattle.charging.specs.Links.{leads_inside};
 fn added(sum: u32, m: u16) -> u32
     ensures { result ≡ min (sum + m) 65535 }
 {
-    let total = (sum as u64) + (m as u64);
-    if total < 65535 { total as u32 } else { 65535 }
+    sum.saturating_add(u32::from(m)).min(65535)
 }
 
-// m more at each job of the chain from this link on, at most `depth` of them. Soundness gives that the chain of a present job leads to
+// m more at each job of the chain from this link on, at most `depth` of them. A link is as the state's column of parents has it: 0 for none, else the
+// job's number plus 1. Soundness gives that the chain of a present job leads to
 // present jobs only (`leads_inside_lem` of proofs/).
 pub fn charge(parent: &[u8; 32], sums: &mut [u32; 32], link: u8, m: u16, depth: u8)
     requires { leads_inside (at parent.now) depth link ≡ true }
     ensures { sums.new ≡ along_chain (at parent.now) (added_to m) depth link sums.old }
 {
-    if depth == 0 {
+    if depth == 0 || link == 0 {
         return;
     }
-    if link == 0 {
-        return;
-    }
-    let j = (link - 1) as usize;
+    let j = usize::from(link - 1);
     sums[j] = added(sums[j], m);
     charge(parent, sums, parent[j], m, depth - 1);
 }

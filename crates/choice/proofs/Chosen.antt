@@ -1,7 +1,7 @@
 -- What a sound state has ready for the leaf functions, and their answers put together.
 use Prim.Native.Nat.{ℕ, zero, suc, ◌*◌, ◌≤◌, ◌<◌}
 use mathlib.Core.Bool.{true, false}
-use mathlib.Core.Path.{◌≡◌, sym, ◌∙◌, ap, subst}
+use mathlib.Core.Path.{◌≡◌, refl, sym, ◌∙◌, ap, subst}
 use native.Mathlib.Omega.{arith}
 use Rattle.laws.proofs.Bools.{if_true, if_false}
 use Rattle.rules.specs.declared.State.{State}
@@ -13,8 +13,9 @@ use Rattle.rules.proofs.Shape.{Shaped}
 use Rattle.rules.proofs.Picked.{Current}
 use Rattle.rules.proofs.Preemptor.{preemptor_found}
 use Rattle.choice.specs.declared.Choice.{Choice}
-use Rattle.preemption.specs.Preempting.{waiting_at}
-use Rattle.choice.specs.Choosing.{picked_from, nothing, chosen, chosen_with, chosen_on, choice_of}
+use Rattle.std.specs.Prelude.{Some, None}
+use Rattle.preemption.specs.Preempting.{preemptor_at}
+use Rattle.choice.specs.Choosing.{picked_from, chosen, chosen_with, chosen_on, choice_of}
 
 module _ (w : State) (shape : Shaped w) (h : Sound w) where
   pub sold_read : (t y : ℕ) → Current w t y → (settings_of w t).cost * at w.jobs.sold y ≤ 256
@@ -23,9 +24,9 @@ module _ (w : State) (shape : Shaped w) (h : Sound w) where
       omega (arith, ap (λ x. (settings_of w x).cost * at w.jobs.sold y) r.transport, s.sold, s.n.1)
 
   -- the job picked from
-  pub job_read : (now t y link j : ℕ) → t < w.setup.transports → Current w t y → link ≡ preemptor_of w now t y → j ≡ picked_from y link
+  pub job_read : (now t y link j : ℕ) → t < w.setup.transports → Current w t y → link ≡ preemptor_of w now t y → j ≡ picked_from y (preemptor_at w link)
       → (j < 32) × (is_present w j ≡ true) × (has_eligible w j ≡ true)
-  unfolding picked_from
+  unfolding picked_from preemptor_at
   job_read now t y zero j l r p e = subst (λ x. (x < 32) × (is_present w x ≡ true) × (has_eligible w x ≡ true)) (sym e) (r.below, r.present, r.eligible)
   job_read now t y (suc x) j l r p e =
       let f = preemptor_found w now t y x shape h l r (sym p) in
@@ -33,21 +34,22 @@ module _ (w : State) (shape : Shaped w) (h : Sound w) where
 
 -- the answers
 
-pub nothing_chosen : (w : State) (now : ℕ) → finds w ≡ false → nothing ≡ choice_of w now
+pub nothing_chosen : (w : State) (now : ℕ) → finds w ≡ false → None ≡ choice_of w now
 unfolding choice_of
-nothing_chosen w now f = sym (if_false (chosen_on w now (next_transport w) (current_job w (next_transport w))) nothing f)
+nothing_chosen w now f = sym (if_false (Some (chosen_on w now (next_transport w) (current_job w (next_transport w)))) None f)
 
-pub all_chosen : (w : State) (now t y passed link waiting j place entry : ℕ) → finds w ≡ true → t ≡ next_transport w → y ≡ current_job w t → passed ≡ passed_over w t y
-    → link ≡ preemptor_of w now t y → waiting ≡ waiting_at w link → j ≡ picked_from y link → place ≡ next_place w j → entry ≡ next_entry w j
-    → ◌≡◌ {A = Choice} (record { found = true; transport = t; current = y; passed = passed; preemptor = link; waiting = waiting; job = j; place = place; entry = entry }) (choice_of w now)
+pub all_chosen : (w : State) (now : ℕ) (c : Choice) → finds w ≡ true → c.transport ≡ next_transport w → c.current ≡ current_job w c.transport → c.passed ≡ passed_over w c.transport c.current
+    → c.preemptor ≡ preemptor_at w (preemptor_of w now c.transport c.current) → c.job ≡ picked_from c.current c.preemptor → c.place ≡ next_place w c.job → c.entry ≡ next_entry w c.job
+    → Some c ≡ choice_of w now
 unfolding choice_of
-all_chosen w now t y passed link waiting j place entry f et ey ep el ew ej ek ee =
-    parts
-    ∙ ap (chosen w t y link) ej
-    ∙ ap (chosen_with w t y) el
-    ∙ ap (chosen_on w now t) ey
-    ∙ ap (λ x. chosen_on w now x (current_job w x)) et
-    ∙ sym (if_true (chosen_on w now (next_transport w) (current_job w (next_transport w))) nothing f)
+all_chosen w now c f et ey ep el ej ek ee =
+    ap (λ c. Some c)
+    (parts
+    ∙ ap (chosen w c.transport c.current c.preemptor) ej
+    ∙ ap (chosen_with w c.transport c.current) el
+    ∙ ap (chosen_on w now c.transport) ey
+    ∙ ap (λ x. chosen_on w now x (current_job w x)) et)
+    ∙ sym (if_true (Some (chosen_on w now (next_transport w) (current_job w (next_transport w)))) None f)
   where
-    parts : ◌≡◌ {A = Choice} (record { found = true; transport = t; current = y; passed = passed; preemptor = link; waiting = waiting; job = j; place = place; entry = entry }) (chosen w t y link j)
-    parts = rw (ep, ew, ek, ee)
+    parts : c ≡ chosen w c.transport c.current c.preemptor c.job
+    parts = rw (← ep, ← ek, ← ee) refl

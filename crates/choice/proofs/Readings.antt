@@ -8,7 +8,7 @@ use native.Mathlib.Nat.{mod-lt}
 use native.Mathlib.Omega.{arith}
 use lib.Dec.{eqb, ltb}
 use lib.ListN.{get_or}
-use borrow.Author.Tests.{ltb-true, lt-ltb, eqb-true, eq-eqb}
+use borrow.Author.Tests.{ltb-true, lt-ltb, le-ltb, eqb-true, eq-eqb}
 use Rattle.laws.specs.Range.{any_to, count_to, first_to}
 use Rattle.laws.specs.Sequence.{holds, first_of, up_to}
 use Rattle.laws.proofs.Bools.{case_bool, bool_same, true_not_false, and_both, and_left, and_right}
@@ -20,7 +20,7 @@ use Rattle.laws.proofs.Sequence.{count_in_same}
 use Rattle.rules.specs.declared.State.{State}
 use Rattle.rules.specs.State.{at, transport_of, queue_of, is_waiting, job_of, destination_of, is_present, waits_of, waiting_of, order_at}
 use Rattle.rules.specs.SoundFacts.{Sound}
-use Rattle.rules.specs.Picking.{eligible, eligible_on, eligible_of, eligible_to, has_eligible, steps_to, transport_steps, finds, next_transport, current_job, passed_over, next_place, next_entry}
+use Rattle.rules.specs.Picking.{eligible_on, eligible_of, eligible_to, has_eligible, steps_to, transport_steps, finds, next_transport, current_job, passed_over, next_place, next_entry}
 use Rattle.rules.proofs.Shape.{Shaped, present_below}
 use Rattle.rules.proofs.EntryFacts.{eligible_of_eligible, eligible_of_job, eligible_sound}
 use Rattle.rules.proofs.Turns.{steps_found}
@@ -116,23 +116,23 @@ module _ (w : State) (shape : Shaped w) (h : Sound w) (waits : List ℕ) (ready 
   transport_read = ap (λ x. (w.turn + x) % w.setup.transports) steps_read
 
   -- what a turn of transports found
-  pub turn_read : (found : Bool) (t y passed : ℕ) → Turned w.queues w.setup.transports w.turn waits ready found t y passed → found ≡ true → TurnRead w t y passed
-  turn_read found t y passed r e =
-      let f : finds w ≡ true = sym (r.finds ∙ finds_read) ∙ e in
-      let on : t ≡ next_transport w = r.on e ∙ transport_read in
+  pub turn_read : (t y passed : ℕ) → Turned w.queues w.setup.transports w.turn waits ready t y passed → TurnRead w t y passed
+  turn_read t y passed r =
+      let f : finds w ≡ true = sym finds_read ∙ lt-ltb _ _ r.finds in
+      let on : t ≡ next_transport w = r.on ∙ transport_read in
       let tf : TransportFound w t = subst (TransportFound w) (sym on) (transport_found w f) in
-      let cur : y ≡ current_job w t = r.current e ∙ front_read t tf.below in
+      let cur : y ≡ current_job w t = r.current ∙ front_read t tf.below in
       record {
         finds = f;
         on = on;
         transport = tf;
         current = cur;
         is = subst (Current w t) (sym cur) (current_found w t shape h tf);
-        ahead = r.ahead e ∙ ahead_read t y tf.below;
+        ahead = r.ahead ∙ ahead_read t y tf.below;
       }
 
-  pub not_found : (found : Bool) (t y passed : ℕ) → Turned w.queues w.setup.transports w.turn waits ready found t y passed → found ≡ false → finds w ≡ false
-  not_found found t y passed r e = sym (r.finds ∙ finds_read) ∙ e
+  pub not_found : front_steps ready w.queues w.setup.transports w.turn ≡ w.setup.transports → finds w ≡ false
+  not_found e = sym finds_read ∙ le-ltb _ _ (omega (arith, e))
 
 -- the next place of a job, and its entry
 
@@ -162,7 +162,7 @@ module _ (w : State) (shape : Shaped w) (h : Sound w) (j : ℕ) (below : j < 32)
         steps_same (open_place w.jobs.order pairs room j) (λ k. any_to (eligible_to w j (order_at w j k)) 512) (at w.jobs.places j) (at w.jobs.turn j)
         (λ k l. asked k)
 
-    place_found : steps_to (open_place w.jobs.order pairs room j) (at w.jobs.places j) (at w.jobs.turn j) < at w.jobs.places j
+    pub place_found : steps_to (open_place w.jobs.order pairs room j) (at w.jobs.places j) (at w.jobs.turn j) < at w.jobs.places j
     place_found =
         rw same_steps
         (steps_found (λ k. any_to (eligible_to w j (order_at w j k)) 512) (at w.jobs.places j) (at w.jobs.turn j) (h.jobs j below present).turn (next_place w j)
@@ -172,17 +172,9 @@ module _ (w : State) (shape : Shaped w) (h : Sound w) (j : ℕ) (below : j < 32)
     unfolding next_place
     place_read = ap (λ x. (at w.jobs.turn j + x) % at w.jobs.places j) same_steps
 
-    -- what is promised with the columns read at i
-    pub placed_read : (i place destination : ℕ) → i ≡ j
-        → (steps_to (open_place w.jobs.order pairs room j) (at w.jobs.places i) (at w.jobs.turn i) < at w.jobs.places i
-        → Placed w.jobs.order pairs room j (at w.jobs.places i) (at w.jobs.turn i) place destination)
+    -- what is promised of the turn
+    pub placed_read : (place destination : ℕ) → Placed w.jobs.order pairs room j (at w.jobs.places j) (at w.jobs.turn j) place destination
         → (place ≡ next_place w j) × (destination ≡ order_at w j (next_place w j))
-    placed_read i place destination e p =
-        let q =
-        subst
-        (λ x. steps_to (open_place w.jobs.order pairs room j) (at w.jobs.places x) (at w.jobs.turn x) < at w.jobs.places x
-        → Placed w.jobs.order pairs room j (at w.jobs.places x) (at w.jobs.turn x) place destination)
-        e p place_found
-        in
+    placed_read place destination q =
         let here : place ≡ next_place w j = q.turn ∙ place_read in
         (here, q.taken ∙ ap (order_at w j) here)

@@ -1,13 +1,12 @@
 -- The tests of one job, case by case.
-use Prim.Native.Nat.{ℕ, suc, ◌+◌, ◌*◌, ◌≤◌, ◌<◌}
-use mathlib.Core.Bool.{Bool, true, false, ◌&&◌}
-use mathlib.Core.Path.{◌≡◌, ◌∙◌, ap}
+use Prim.Native.Nat.{ℕ, suc, ◌+◌, ◌*◌, ◌≤◌, min}
+use mathlib.Core.Bool.{Bool, true, false, ◌&&◌, ◌||◌}
+use mathlib.Core.Path.{◌≡◌, sym, ◌∙◌, ap}
 use mathlib.Core.List.{List}
-use native.Mathlib.Nat.{mul-le-mul_right, le-mul_of_pos_right}
 use native.Mathlib.Omega.{arith}
 use lib.Dec.{eqb, leb}
 use lib.ListN.{length, get_or, get_or-eq_default}
-use borrow.Author.Tests.{eqb-true, eqb-false, eq-eqb, le-leb, lt-leb, leb-true}
+use borrow.Author.Tests.{eqb-true, eqb-false, eq-eqb, le-leb, leb-true}
 use Rattle.laws.proofs.Bools.{case_bool, bool_same, and_both, and_left_false}
 use Rattle.laws.specs.Chain.{ends_in}
 use Rattle.rules.specs.declared.Settings.{Settings}
@@ -22,12 +21,7 @@ module _ (cost sold n : ℕ) where
   unfolding sold_test
   sold_none e = and_both (le-leb (cost * sold) n (rw e (omega arith))) (implies_of (eqb cost 0) λ _. eq-eqb sold 0 e)
 
-  pub sold_dear : (sold ≡ 0 → ⊥) → 65535 < cost → n ≤ 65535 → sold_test cost sold n ≡ false
-  unfolding sold_test
-  sold_dear z d f =
-      and_left_false (implies (eqb cost 0) (eqb sold 0)) (lt-leb (cost * sold) n (omega (arith, le-mul_of_pos_right {m = sold} cost (omega arith))))
-
-  pub sold_some : (sold ≡ 0 → ⊥) → leb (cost * sold) n && leb 1 cost ≡ sold_test cost sold n
+  sold_some : (sold ≡ 0 → ⊥) → leb (cost * sold) n && leb 1 cost ≡ sold_test cost sold n
   unfolding sold_test
   sold_some z =
       ap (λ b. leb (cost * sold) n && b)
@@ -35,8 +29,12 @@ module _ (cost sold n : ℕ) where
       (λ h. implies_of (eqb cost 0) λ t. (let a = leb-true 1 cost h in let b = eqb-true cost 0 t in absurd (omega arith)))
       (λ h. le-leb 1 cost (case_bool (eqb cost 0) (λ t. absurd (z (eqb-true sold 0 (implies_at h t)))) (λ f. let a = eqb-false cost 0 f in omega arith))))
 
-pub sold_fits : (cost sold : ℕ) → cost ≤ 65535 → sold < 65536 → cost * sold < 18446744073709551616
-sold_fits cost sold h k = omega (arith, mul-le-mul_right sold h)
+  -- a product that stops at the largest number is above n where the whole product is
+  pub sold_is : (q : ℕ) → q ≡ min (cost * sold) 18_446_744_073_709_551_615 → n ≤ 65535 → eqb sold 0 || leb q n && leb 1 cost ≡ sold_test cost sold n
+  sold_is q e few =
+      let same : leb q n ≡ leb (cost * sold) n =
+      bool_same (λ h. le-leb (cost * sold) n (omega (arith, leb-true q n h))) (λ h. le-leb q n (omega (arith, leb-true (cost * sold) n h))) in
+      case_bool (eqb sold 0) (λ t. rw t (sym (sold_none (eqb-true sold 0 t)))) (λ f. rw (f, same) (sold_some (eqb-false sold 0 f)))
 
 module _ (present : List Bool) (transport picked : List ℕ) (t : ℕ) (marked : Bool) (link : ℕ) where
   pub child_none : link ≡ 0 → child_test present transport picked t marked link ≡ true

@@ -4,7 +4,8 @@
 ghost use Rattle.std.specs.Prelude.{◌≡◌, ◌+◌, ◌*◌, ◌≤◌, ◌<◌, length};
 ghost use Rattle.console.specs.Lines.{after_line};
 
-use calling::Reply;
+use lines::answer::Reply;
+use lines::input::Part;
 use lines::{answer, input};
 use rules::State;
 use std::io;
@@ -36,9 +37,7 @@ fn run<R: Read, W: Write>(
     let out: &mut [u8] = &mut out_space;
     for _ in 0..u64::MAX {
         l = input::next_line(from, line, l)?;
-        let start = l.start;
-        let end = l.end;
-        let r = answered(&line[start..end], words, out, l.mode, state);
+        let r = answered(&line[l.start..l.end], words, out, l.part, state);
         answer::write(to, out, r.length)?;
         state = r.state;
         if l.over {
@@ -49,20 +48,23 @@ fn run<R: Read, W: Write>(
 }
 
 // Answers a line, or the end of one that was too long: the state that the call left, and the answer's length.
-fn answered(line: &[u8], words: &mut [u64], out: &mut [u8], mode: u8, s: State) -> Reply
+fn answered(line: &[u8], words: &mut [u64], out: &mut [u8], part: Part, s: State) -> Reply
     requires { length line.now ≤ 2 * length words.old }
-    ensures { result.state ≡ after_line mode line.now s }
+    ensures { result.state ≡ after_line part line.now s }
 {
     let mut list_space = [0u16; 512];
     let list: &mut [u16] = &mut list_space;
     let mut text_space = [0u8; 4096];
     let written: &mut [u8] = &mut text_space;
-    if mode == 0 {
-        return calling::answer_line(line, words, list, written, out, s);
+    match part {
+        Part::Whole => calling::answer_line(line, words, list, written, out, s),
+        Part::TooLong => Reply {
+            state: s,
+            length: answer::malformed(out),
+        },
+        Part::TooLongComment => Reply {
+            state: s,
+            length: 0,
+        },
     }
-    if mode == 1 {
-        let n = answer::malformed(out);
-        return calling::left(s, n);
-    }
-    calling::left(s, 0)
 }

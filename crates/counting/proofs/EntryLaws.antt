@@ -1,25 +1,25 @@
 -- The tables of `count_entries`.
 use Prim.Native.Nat.{ℕ, zero, suc, ◌+◌, ◌*◌, ◌≤◌, ◌<◌}
-use mathlib.Core.Bool.{Bool, true, false, ◌&&◌, ◌||◌, and-true}
+use mathlib.Core.Bool.{Bool, true, false, ◌&&◌, ◌||◌}
 use mathlib.Core.Path.{◌≡◌, refl, sym, ◌∙◌, ap}
 use mathlib.Core.Logic.{◌≢◌}
 use mathlib.Core.List.{List}
+use Rattle.std.specs.Prelude.{Some, None}
 use native.Mathlib.Decide.{ℕ_discrete, dec_lt}
 use native.Mathlib.Omega.{arith}
-use lib.Dec.{eqb, ltb, leb}
+use lib.Dec.{eqb, leb}
 use mir.Syntax.{w16}
 use mir.Val.{Fits}
 use lib.ListN.{length, get_or, set, length-set, replicate, get_or-replicate, get_or-eq_default}
 use lib.Seq.{get_or-set_same, get_or-set_other}
-use borrow.Author.Tests.{eq-eqb, ne_eqb, lt-ltb, le-ltb, lt-leb, leb-true}
+use borrow.Author.Tests.{eq-eqb, ne_eqb, le-ltb, lt-leb, leb-true}
 use Rattle.laws.specs.Range.{all_to, count_to, sum_to}
-use Rattle.laws.proofs.Bools.{true_not_false, false_of, and_both, and_left_false, and_right_false, and_left, and_right, or_left, or_neither, one_true, one_false}
-use Rattle.laws.proofs.Joined.{and_4}
+use Rattle.laws.proofs.Bools.{true_not_false, and_both, and_left_false, and_right_false, and_left, and_right, or_left, or_neither, one_true, one_false}
 use Rattle.laws.proofs.All.{all_false_of, all_more}
 use Rattle.laws.proofs.Count.{count_step, count_le_bound}
 use Rattle.rules.specs.State.{at}
 use Rattle.counting.specs.declared.EntryCounts.{EntryCounts}
-use Rattle.counting.specs.Counting.{belongs_at, Columns, belongs_test, entry_test, counts_to, Counts, no_pairs, no_counts, RightCounts}
+use Rattle.counting.specs.Counting.{belongs_at, Columns, belongs_test, entry_test, counts_to, Counts, no_pairs, RightCounts}
 use Rattle.counting.proofs.PairLaws.{row_is, row_fits, column_is, column_fits}
 
 module _ (kind : List ℕ) (v : ℕ) (key : ℕ → ℕ) (m : ℕ) where
@@ -83,31 +83,16 @@ kind_test (suc (suc (suc x))) h =
     or_neither (ne_eqb (suc (suc (suc x))) 1 (omega arith)) (ne_eqb (suc (suc (suc x))) 2 (omega arith)) ∙ sym (lt-leb (suc (suc (suc x))) 2 (omega arith))
 
 module _ (present : List Bool) (transport home : List ℕ) (destinations : ℕ) (marked : List Bool) (j d : ℕ) where
-  pub belongs_no_job : length present ≡ 32 → 32 ≤ j → false ≡ belongs_at present transport home destinations marked j d
+  belongs_no_job : length present ≡ 32 → 32 ≤ j → false ≡ belongs_at present transport home destinations marked j d
   unfolding belongs_at
   belongs_no_job e l =
       let absent : get_or present j false ≡ false = get_or-eq_default present false (omega (arith, e)) in
       sym (and_left_false _ (and_left_false _ (and_left_false _ absent)))
 
-  pub belongs_no_destination : destinations ≤ d → false ≡ belongs_at present transport home destinations marked j d
+  belongs_no_destination : destinations ≤ d → false ≡ belongs_at present transport home destinations marked j d
   unfolding belongs_at
   belongs_no_destination l =
       sym (and_left_false _ (and_left_false _ (and_right_false (get_or present j false) (le-ltb d destinations l))))
-
-  pub belongs_no_mark : get_or present j false && get_or marked (256 * j + d) false ≡ false → false ≡ belongs_at present transport home destinations marked j d
-  unfolding belongs_at
-  belongs_no_mark f =
-      sym (false_of λ t.
-      (let all = and_4 (get_or present j false) (ltb d destinations) (eqb (at transport j) (at home d)) (get_or marked (256 * j + d) false) t in
-      true_not_false (and_both all.0 all.3) f))
-
-  pub belongs_is : (t : ℕ) → t ≡ at transport j → d < destinations → get_or present j false && get_or marked (256 * j + d) false ≡ true
-      → eqb t (at home d) ≡ belongs_at present transport home destinations marked j d
-  unfolding belongs_at
-  belongs_is t e l h =
-      let there = and_left (get_or present j false) (get_or marked (256 * j + d) false) h in
-      let named = and_right (get_or present j false) (get_or marked (256 * j + d) false) h in
-      rw (there, named, lt-ltb d destinations l, e, and-true (eqb (at transport j) (at home d)))
 
   pub belongs_inside : length present ≡ 32 → belongs_at present transport home destinations marked j d ≡ true → (j < 32) × (d < destinations)
   belongs_inside e h = (
@@ -174,13 +159,8 @@ module _ (k : Columns) where
       tested =
           rw (ne_eqb (at k.kind n) 0 used, kind_test (at k.kind n) used, told, ej, ed)
 
-      pub counted_not : leb (at k.kind n) 2 && r ≡ false → n < 512 → (a : EntryCounts) → a ≡ no_counts → RightCounts k a
-      counted_not f l a e =
-          record {
-            right = rw e (sym (all_false_of (entry_test k) 512 n l (tested ∙ f)));
-            tables = λ t. true_not_false t (ap (λ a. a.good) e);
-            none = λ _. e;
-          }
+      pub counted_not : leb (at k.kind n) 2 && r ≡ false → n < 512 → RightCounts k None
+      counted_not f l = record { right = sym (all_false_of (entry_test k) 512 n l (tested ∙ f)); tables = tt }
 
       module _ (right : leb (at k.kind n) 2 && r ≡ true) (long : length k.present ≡ 32) (few : k.destinations ≤ 32) where
         pub counted_inside : (j < 32) × (d < k.destinations) × (d < 32)
@@ -229,18 +209,17 @@ module _ (k : Columns) where
 
   pub counted_done :
       (r : EntryCounts)
-      → r.good ≡ true
       → (p : List ℕ)
       → Counted k 512 p r.busy r.to r.on
       → length r.waiting ≡ 32
       → ((j : ℕ) → j < 32 → at r.waiting j ≡ sum_to (λ d. at p (32 * j + d)) 32)
       → length r.held ≡ 32
       → ((d : ℕ) → d < 32 → at r.held d ≡ sum_to (λ j. at p (32 * j + d)) 32)
-      → RightCounts k r
-  counted_done r g p s ew w eh h =
+      → RightCounts k (Some r)
+  counted_done r p s ew w eh h =
       record {
-        right = g ∙ sym s.right;
-        tables = λ _.
+        right = sym s.right;
+        tables =
             record {
               waiting = record { size = ew; counts = λ j l. w j l ∙ counted_row 512 p _ _ _ s j l };
               busy = s.busy;
@@ -248,5 +227,4 @@ module _ (k : Columns) where
               to = s.to;
               on = s.on;
             };
-        none = λ f. true_not_false g f;
       }

@@ -1,18 +1,21 @@
 -- The rows and the columns of the table of jobs and destinations.
-use Prim.Native.Nat.{ℕ, zero, suc, ◌+◌, ◌*◌, ◌≤◌, ◌<◌}
+use Prim.Native.Nat.{ℕ, zero, suc, ◌+◌, ◌-◌, ◌*◌, ◌≤◌, ◌<◌}
 use mathlib.Core.Bool.{Bool, true, ◌&&◌, and_comm}
 use mathlib.Core.Path.{◌≡◌, refl, sym, ◌∙◌, ap}
 use mathlib.Core.List.{List}
 use native.Mathlib.Omega.{arith}
 use lib.Dec.{eqb}
-use lib.ListN.{length, set, length-set}
-use lib.Seq.{get_or-set_other}
+use lib.ListN.{length, drop, set, length-set, length-take, length-drop}
+use lib.Seq.{get_or-set_other, get_or-take, get_or-drop}
+use borrow.Rule.Slice.PartMut.{mid_of}
+use Rattle.std.specs.List.{sum}
 use borrow.Author.Tests.{eq-eqb, ne_eqb, eqb-true}
 use Rattle.laws.specs.Bools.{one}
 use Rattle.laws.specs.Range.{count_to, sum_to}
 use Rattle.laws.proofs.Bools.{case_bool, bool_same, and_both, and_left, and_right, and_left_false, and_right_false, one_false}
 use Rattle.laws.proofs.Sum.{sum_eq, sum_zero, sum_add, sum_alone}
 use Rattle.laws.proofs.Count.{count_le_bound}
+use Rattle.laws.proofs.Iterated.{sum_to_sum}
 use Rattle.laws.proofs.Places.{set_more}
 use Rattle.rules.specs.State.{at}
 use Rattle.counting.specs.Counting.{counts_to, Counts}
@@ -37,6 +40,16 @@ module _ (f : ℕ → ℕ) (before after : List ℕ) (d : ℕ) (s : Added f befo
         done = set_more (λ i. at before i + f i) after d (at after d + f d) 0 (omega (arith, s.size)) s.done (omega (arith, s.rest d (omega arith)));
         rest = λ i m. get_or-set_other after d i (at after d + f d) 0 (omega arith) ∙ s.rest i (omega arith);
       }
+
+-- a row of 32 is read as a part of the table
+pub row_part : (table : List ℕ) (j : ℕ) → j < 32 → length table ≡ 1024 → sum (mid_of (32 * j) (32 * j + 32 - 32 * j) table) ≡ sum_to (λ d. at table (32 * j + d)) 32
+row_part table j l e =
+    let n : 32 * j + 32 - 32 * j ≡ 32 = omega arith in
+    let row : List ℕ = mid_of (32 * j) 32 table in
+    let long : length row ≡ 32 = simp (length-take, length-drop) (omega arith) in
+    let same : sum_to (λ d. at row d) 32 ≡ sum_to (λ d. at table (32 * j + d)) 32 =
+    sum_eq (λ d. at row d) (λ d. at table (32 * j + d)) 32 (λ d m. get_or-take 32 (drop (32 * j) table) d 0 m ∙ get_or-drop (32 * j) table d 0) in
+    rw n (sym (sum_to_sum (λ x. x) row 0) ∙ ap (sum_to (λ d. at row d)) long ∙ same)
 
 -- the place of a job and a destination is no other pair's
 pub pair_test : (x y j d : ℕ) → y < 32 → d < 32 → eqb (32 * x + y) (32 * j + d) ≡ eqb x j && eqb y d

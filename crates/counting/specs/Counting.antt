@@ -1,5 +1,5 @@
 -- "Sound means", the clause of the entries, and the counts that the other clauses speak of, over the columns that the code reads.
-use Rattle.std.specs.Prelude.{ℕ, ◌+◌, ◌*◌, ◌<◌, ◌≡◌, Bool, true, false, ◌&&◌, ◌||◌, List, length, get_or, replicate, eqb, ltb}
+use Rattle.std.specs.Prelude.{ℕ, ◌+◌, ◌*◌, ◌<◌, ◌≡◌, Bool, true, false, ◌&&◌, ◌||◌, List, length, get_or, replicate, eqb, ltb, Option, is_some, IfSome}
 use Rattle.laws.specs.Range.{all_to, count_to}
 use Rattle.rules.specs.State.{at}
 use Rattle.counting.specs.declared.EntryCounts.{EntryCounts}
@@ -70,18 +70,7 @@ pub record Tables (k : Columns) (n : ℕ) (w b h t o : List ℕ) : Type 0 where
   pub to : Counts k.kind 2 (at k.destination) 32 n t
   pub on : Counts k.kind 2 (λ e. at k.home (at k.destination e)) 4 n o
 
-abbrev pub no_counts : EntryCounts
-no_counts =
-    record {
-      good = false;
-      waiting = replicate 32 0;
-      busy = replicate 32 0;
-      held = replicate 32 0;
-      to = replicate 32 0;
-      on = replicate 4 0;
-    }
-
-pub record RightCounts (k : Columns) (r : EntryCounts) : Type 0 where
-  pub right : r.good ≡ all_to (entry_test k) 512
-  pub tables : r.good ≡ true → Tables k 512 r.waiting r.busy r.held r.to r.on
-  pub none : r.good ≡ false → r ≡ no_counts
+-- every entry is good, and the tables count them; or one is not, and nothing is told
+pub record RightCounts (k : Columns) (r : Option EntryCounts) : Type 0 where
+  pub right : is_some r ≡ all_to (entry_test k) 512
+  pub tables : IfSome r (λ c. Tables k 512 c.waiting c.busy c.held c.to c.on)

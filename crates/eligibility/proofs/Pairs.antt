@@ -1,7 +1,7 @@
 -- The table of pairs, which the soundness test fills, finds the eligible entries of a sound state.
 use Prim.Native.Nat.{ℕ, ◌+◌, ◌*◌, ◌≤◌, ◌<◌}
 use mathlib.Core.Bool.{Bool, true, false, ◌&&◌, and-true, and_assoc}
-use mathlib.Core.Path.{◌≡◌, sym, ◌∙◌, ap, subst}
+use mathlib.Core.Path.{◌≡◌, refl, sym, ◌∙◌, ap, subst}
 use mathlib.Core.List.{List}
 use native.Mathlib.Decide.{dec_lt}
 use native.Mathlib.Omega.{arith}
@@ -34,6 +34,11 @@ ready_at pairs room j l = get_or_table (λ j. any_to (open_pair pairs room j) 32
 pub ready_past : (pairs : List ℕ) (room : List Bool) (j : ℕ) → 32 ≤ j → get_or (ready_in pairs room) j false ≡ false
 unfolding ready_in
 ready_past pairs room j l = get_or-eq_default (ready_in pairs room) false (omega (arith, length_table (λ j. any_to (open_pair pairs room j) 32) 32, l))
+
+-- a place where something waits is open where its destination has room
+pub opened : (pairs : List ℕ) (room : List Bool) (j d to : ℕ) → d ≡ to → d < 32 → 0 < at pairs (32 * j + d) → get_or room d false ≡ open_to pairs room j to
+unfolding open_to open_pair
+opened pairs room j d to e l h = rw (← e, lt-ltb d 32 l, lt-ltb 0 (at pairs (32 * j + d)) h) refl
 
 module _ (w : State) (shape : Shaped w) (h : Sound w) (room : List Bool) (rooms : (d : ℕ) → d < w.setup.destinations → get_or room d false ≡ is_open w.destinations w.busy w.setup d)
     (pairs : List ℕ) (paired : Paired w.entries.kind w.entries.job w.entries.destination pairs)

@@ -6,7 +6,7 @@ use mathlib.Core.List.{List}
 use native.Mathlib.Nat.{add_assoc, mul-add, mul_assoc, mul_comm, mul-le-mul, mul-le-mul_right, le_of_lt, pow-zero, pow-suc}
 use native.Mathlib.Omega.{arith}
 use lib.ListN.{length}
-use lib.Dec.{eqb, ltb, leb}
+use lib.Dec.{eqb, leb}
 use borrow.Author.Tests.{le-leb, lt-leb, lt-ltb, le-ltb, ne_eqb}
 use Rattle.laws.specs.Bools.{when◌then◌else◌}
 use Rattle.rules.specs.State.{at}

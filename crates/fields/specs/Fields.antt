@@ -1,7 +1,10 @@
--- How the code tells of a field: fault 0 for a number that is well written and in its range, else the number of its fault, and zeros.
+-- How the code tells of a field: a number that is well written and in its range, or the number of its fault.
+use Rattle.std.specs.Prelude.{Result, Ok, Err}
+use Rattle.rules.specs.declared.Refusal.{Refusal}
+use Rattle.rules.specs.Answers.{refusal_number}
 use Rattle.journal.specs.Numbers.{Number, number, fault}
 use Rattle.fields.specs.declared.Field.{Field}
 
-unfoldable pub told_of : Number → Field
-told_of (number x next) = record { fault = 0; value = x; next = next }
-told_of (fault k) = record { fault = k; value = 0; next = 0 }
+abbrev pub told : Result Field Refusal → Number
+told (Ok f) = number f.value f.next
+told (Err k) = fault (refusal_number k)

@@ -3,12 +3,11 @@ use Prim.Native.Nat.{ℕ}
 use mathlib.Core.Path.{◌≡◌, refl}
 use mathlib.Core.Bool.{true, false}
 use mathlib.Core.List.{List, [], ◌∷◌, map}
+use Rattle.std.proofs.Common.{Ok, Err}
 use lib.ListN.{replicate}
 use Rattle.laws.specs.Bools.{when◌then◌else◌}
 use Rattle.laws.specs.Sequence.{every_in}
 use Rattle.rules.specs.Setup.{within}
-use Rattle.journal.specs.declared.Written.{Written}
-use Rattle.journal.specs.declared.Written.TheVariants
 use Rattle.journal.specs.Records.{Event, name, job, pick, report}
 use Rattle.journal.specs.Writes.{groups_of, number_bytes, numbers_bytes, bytes_of, writable, put, Writing, refusing, fitted, writing_of}
 
@@ -63,12 +62,12 @@ writes e n = writing_of e (nines n) 3
 -- longer than the record, as long, one byte shorter, and shorter than what is used
 pub room_edge :
     map (writes (pick 300)) (8 ∷ 6 ∷ 5 ∷ 2 ∷ [])
-    ≡ record { answer = Written.Used 6; buffer = 9 ∷ 9 ∷ 9 ∷ 2 ∷ 172 ∷ 2 ∷ 9 ∷ 9 ∷ [] } ∷ record { answer = Written.Used 6; buffer = 9 ∷ 9 ∷ 9 ∷ 2 ∷ 172 ∷ 2 ∷ [] }
-    ∷ record { answer = Written.Refused 10; buffer = nines 5 } ∷ record { answer = Written.Refused 10; buffer = nines 2 } ∷ []
+    ≡ record { answer = Ok 6; buffer = 9 ∷ 9 ∷ 9 ∷ 2 ∷ 172 ∷ 2 ∷ 9 ∷ 9 ∷ [] } ∷ record { answer = Ok 6; buffer = 9 ∷ 9 ∷ 9 ∷ 2 ∷ 172 ∷ 2 ∷ [] }
+    ∷ record { answer = Err 10; buffer = nines 5 } ∷ record { answer = Err 10; buffer = nines 2 } ∷ []
 unfolding writing_of fitted refusing put writable bytes_of numbers_bytes number_bytes groups_of when◌then◌else◌
 room_edge = refl
 
 -- a field that is refused in a record that does not fit: 14 is tested first
-pub first_edge : map (writes (pick past)) (16 ∷ 3 ∷ []) ≡ record { answer = Written.Refused 14; buffer = nines 16 } ∷ record { answer = Written.Refused 14; buffer = nines 3 } ∷ []
+pub first_edge : map (writes (pick past)) (16 ∷ 3 ∷ []) ≡ record { answer = Err 14; buffer = nines 16 } ∷ record { answer = Err 14; buffer = nines 3 } ∷ []
 unfolding writing_of refusing writable bytes_of numbers_bytes number_bytes groups_of when◌then◌else◌
 first_edge = refl

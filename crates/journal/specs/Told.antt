@@ -1,10 +1,11 @@
 -- How the reader tells what it finds: each case of its answer, a job's destinations beside it, and a name's bytes.
-use Rattle.std.specs.Prelude.{ℕ, ◌-◌, List, [], length}
+use Rattle.std.specs.Prelude.{ℕ, ◌≡◌, ◌-◌, List, [], length, Option, Some, None, Result, Ok, Err}
 use Rattle.laws.specs.Sequence.{padded}
+use Rattle.rules.specs.Answers.{refusal_number}
 use Rattle.rules.specs.Calls.{outcome_of}
 use Rattle.journal.specs.declared.Record.{Record}
-use Rattle.journal.specs.declared.Record.TheVariants
-use Rattle.journal.specs.declared.Read.{Read}
+use Rattle.journal.specs.declared.Whole.{Whole}
+use Rattle.journal.specs.declared.Unreadable.{Unreadable}
 use Rattle.journal.specs.declared.Reading.{Reading}
 use Rattle.journal.specs.Records.{Event, name, job, pick, report, end, refused, Found, event, closed}
 
@@ -14,10 +15,21 @@ record_of (job clock t dests) = Record.Job clock t (length dests)
 record_of (pick clock) = Record.Pick clock
 record_of (report clock e ticket outcome) = Record.Report clock e ticket (outcome_of outcome)
 
-unfoldable pub answer_of : Found → Read
-answer_of (event e next) = Read.Whole (record_of e) next
-answer_of (closed end) = Read.End
-answer_of (closed (refused k offset)) = Read.Refused k offset
+-- a record that is refused: its number, and its offset
+pub record Fault : Type 0 where
+  pub number : ℕ
+  pub offset : ℕ
+
+-- a record and the offset of the next, no more, or a fault
+unfoldable pub answer_of : Found → Result (Option Whole) Fault
+answer_of (event e next) = Ok (Some (record { what = record_of e; next = next }))
+answer_of (closed end) = Ok None
+answer_of (closed (refused k offset)) = Err (record { number = k; offset = offset })
+
+-- the code's answer, with a refusal's number in the place of the refusal
+abbrev pub told : Result (Option Whole) Unreadable → Result (Option Whole) Fault
+told (Ok found) = Ok found
+told (Err u) = Err (record { number = refusal_number u.refusal; offset = u.offset })
 
 -- "a job's destinations come back by value"
 unfoldable pub destinations_of : Found → List ℕ
@@ -27,8 +39,10 @@ destinations_of (event (pick clock) next) = []
 destinations_of (event (report clock e ticket outcome) next) = []
 destinations_of (closed c) = []
 
-unfoldable pub reading_of : Found → Reading
-reading_of f = record { answer = answer_of f; destinations = padded 256 (destinations_of f) }
+-- a reading that tells it
+pub record ReadingOf (f : Found) (r : Reading) : Type 0 where
+  pub answer : told r.answer ≡ answer_of f
+  pub destinations : r.destinations ≡ padded 256 (destinations_of f)
 
 -- "Of a name the reader gives back that very part of the lent journal": where no name stands, the empty part
 unfoldable pub name_of : Found → List ℕ

@@ -1,10 +1,10 @@
 -- Request A8: "each record goes into the lent buffer after those already there, all other bytes untouched, and a refusal writes nothing: 14 for a
 -- field that A1's reader would refuse or of 2^32 and more, tested first, then 10 for a record that doesn't fit".
-use Rattle.std.specs.Prelude.{ℕ, zero, suc, ◌+◌, ◌/◌, ◌%◌, Bool, ◌&&◌, List, [], ◌∷◌, ◌++◌, length, take, drop, ltb, leb}
+use Rattle.std.specs.Prelude.{ℕ, zero, suc, ◌+◌, ◌/◌, ◌%◌, Bool, ◌&&◌, List, [], ◌∷◌, ◌++◌, length, take, drop, Result, Ok, Err, ltb, leb}
 use Rattle.laws.specs.Bools.{when◌then◌else◌}
 use Rattle.laws.specs.Sequence.{every_in}
-use Rattle.journal.specs.declared.Written.{Written}
-use Rattle.journal.specs.declared.Written.TheVariants
+use Rattle.rules.specs.declared.Refusal.{Refusal}
+use Rattle.rules.specs.Answers.{refusal_number}
 use Rattle.journal.specs.Numbers.{small}
 use Rattle.journal.specs.Records.{Event, name, job, pick, report, name_number, name_length, job_count, report_outcome}
 
@@ -45,22 +45,27 @@ writable (report clock e ticket outcome) = small clock && small e && small ticke
 unfoldable pub put : List ℕ → List ℕ → ℕ → List ℕ
 put bytes buffer used = take used buffer ++ bytes ++ drop (used + length bytes) buffer
 
--- the writer's answer, and the buffer that it leaves
+-- the writer's answer, how many bytes of the buffer are used now or the number of a refusal, and the buffer that it leaves
 pub record Writing : Type 0 where
-  pub answer : Written
+  pub answer : Result ℕ ℕ
   pub buffer : List ℕ
 
 -- "a refusal writes nothing"
 unfoldable pub refusing : ℕ → List ℕ → Writing
-refusing k buffer = record { answer = Written.Refused k; buffer = buffer }
+refusing k buffer = record { answer = Err k; buffer = buffer }
 
 -- "10 for a record that doesn't fit": also where more is used than the buffer has
 unfoldable pub fitted : List ℕ → List ℕ → ℕ → Writing
 fitted bytes buffer used =
     when leb (used + length bytes) (length buffer)
-    then record { answer = Written.Used (used + length bytes); buffer = put bytes buffer used }
+    then record { answer = Ok (used + length bytes); buffer = put bytes buffer used }
     else refusing 10 buffer
 
 -- "14 .., tested first, then 10"
 unfoldable pub writing_of : Event → List ℕ → ℕ → Writing
 writing_of e buffer used = when writable e then fitted (bytes_of e) buffer used else refusing 14 buffer
+
+-- the code's answer, with a refusal's number in the place of the refusal
+abbrev pub told : Result ℕ Refusal → Result ℕ ℕ
+told (Ok n) = Ok n
+told (Err k) = Err (refusal_number k)

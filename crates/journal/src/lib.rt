@@ -1,7 +1,7 @@
 // A journal of events (A1): what a record holds, what stands at an offset, and what a writer answers (A8).
 #![tactic(auto)]
 
-use rules::Outcome;
+use rules::{Outcome, Refusal};
 
 // A record: a kind, and its fields. Of a name its length stands here and its bytes in the journal; of a job how many
 // destinations it has, which stand beside the answer.
@@ -27,25 +27,24 @@ pub enum Record {
     },
 }
 
-// What stands at an offset: a record and the offset of the next; at or past the end nothing; or a record that is refused
-// with 12, 13 or 14, and its offset.
+// A record that is read, and the offset of the next.
 #[derive(Drop)]
-pub enum Read {
-    Whole { what: Record, next: usize },
-    End,
-    Refused { number: u8, offset: usize },
+pub struct Whole {
+    pub what: Record,
+    pub next: usize,
 }
 
-// The answer, and a job's destinations beside it, with zeros behind them. Where no job is read, all are zeros.
+// A record that is refused, with 12, 13 or 14, and its offset.
+#[derive(Drop)]
+pub struct Unreadable {
+    pub refusal: Refusal,
+    pub offset: usize,
+}
+
+// What stands at an offset: a record; at or past the end none; or a record that is refused. Beside it a job's destinations, with zeros
+// behind them. Where no job is read, all are zeros.
 #[derive(Drop)]
 pub struct Reading {
-    pub answer: Read,
+    pub answer: Result<Option<Whole>, Unreadable>,
     pub destinations: [u64; 256],
-}
-
-// What the writer (A8) answers: how many bytes of the buffer are used now, or a refusal, 14 or 10.
-#[derive(Drop)]
-pub enum Written {
-    Used(usize),
-    Refused(u8),
 }

@@ -13,7 +13,7 @@ mod writes;
 
 ghost use Rattle.std.specs.Prelude.{◌*◌, ◌≤◌, length};
 
-use lines::text::{find, same};
+use lines::text::find;
 use lines::{answer, input, text};
 use std::io;
 use std::io::{Read, Write};
@@ -46,10 +46,9 @@ fn run<R: Read, W: Write>(
     let n = input::read_whole(from, cases)?;
     let mut at: usize = 0;
     while at < n {
-        let start = at;
-        let end = find(cases, start, n, 10);
+        let end = find(cases, at, n, b'\n');
+        step(to, &cases[at..end], words, journal, out)?;
         at = end + 1;
-        step(to, &cases[start..end], words, journal, out)?;
     }
     Ok(())
 }
@@ -65,11 +64,9 @@ fn step<W: Write>(
     requires { length line.now ≤ 2 * length words.old }
 {
     to.write_all(line)?;
-    let n = line.len();
     let at = text::skip_blanks(line, 0);
-    let end = find(line, at, n, 32);
-    let got = text::read_numbers(line, end, words);
-    let k = got.count;
+    let end = find(line, at, line.len(), b' ');
+    let k = text::read_numbers(line, end, words).unwrap_or(0);
     if k == 0 {
         return to.write_all(b"\n");
     }
@@ -80,7 +77,7 @@ fn step<W: Write>(
 
 // What a line of that name says of these numbers.
 fn told(name: &[u8], words: &[u64], space: &mut [u8], out: &mut [u8]) -> usize {
-    if same(name, b"write") {
+    if name == b"write".as_slice() {
         return writes::put_write(out, words, space);
     }
     let from = text::at_most(1, words.len());
@@ -90,7 +87,7 @@ fn told(name: &[u8], words: &[u64], space: &mut [u8], out: &mut [u8]) -> usize {
 
 // What a line of that name asks of a journal.
 fn tell(name: &[u8], journal: &[u8], x: u64, out: &mut [u8]) -> usize {
-    if same(name, b"read") {
+    if name == b"read".as_slice() {
         return show::put_read(out, journal, x);
     }
     show::put_replay(out, journal, x)
@@ -101,10 +98,8 @@ pub fn fill(words: &[u64], bytes: &mut [u8]) -> usize
     ensures { result ≤ length bytes.new }
 {
     let count = text::at_most(words.len() as u64, bytes.len());
-    let mut i: usize = 0;
-    while i < count {
-        bytes[i] = (words[i] % 256) as u8;
-        i += 1;
+    for (b, &x) in bytes.iter_mut().zip(words) {
+        *b = (x % 256) as u8;
     }
     count
 }

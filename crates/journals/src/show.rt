@@ -1,5 +1,5 @@
 // What stands at an offset of a journal, and its replay, as a line of text.
-use journal::{Read, Record};
+use journal::{Record, Unreadable, Whole};
 use lines::answer::{put, put_byte, put_number, put_text};
 use lines::text::at_most;
 use reader::{name_at, read_at};
@@ -9,21 +9,19 @@ use rules::Outcome;
 pub fn put_read(out: &mut [u8], journal: &[u8], x: u64) -> usize {
     let at = x as usize;
     let r = read_at(journal, at);
-    let a = r.answer;
-    let dests = r.destinations;
-    match a {
-        Read::Whole { what, next } => {
-            let mut p = put_record(out, what, &dests, name_at(journal, at));
+    match r.answer {
+        Ok(Some(Whole { what, next })) => {
+            let mut p = put_record(out, what, &r.destinations, name_at(journal, at));
             p = put(out, p, b" next");
             p = put_number(out, p, next as u64);
-            put_byte(out, p, 10)
+            put_byte(out, p, b'\n')
         }
-        Read::End => put(out, 0, b"end\n"),
-        Read::Refused { number, offset } => {
+        Ok(None) => put(out, 0, b"end\n"),
+        Err(Unreadable { refusal, offset }) => {
             let mut p = put(out, 0, b"refused");
-            p = put_number(out, p, number as u64);
+            p = put_number(out, p, u64::from(refusal.number()));
             p = put_number(out, p, offset as u64);
-            put_byte(out, p, 10)
+            put_byte(out, p, b'\n')
         }
     }
 }
@@ -34,7 +32,7 @@ fn put_record(out: &mut [u8], what: Record, dests: &[u64], name: &[u8]) -> usize
             destination,
             length,
         } => {
-            let p = put_fields(out, b"name", [destination, length, 0], 2);
+            let p = put_fields(out, b"name", &[destination, length]);
             put_bytes(out, p, name)
         }
         Record::Job {
@@ -42,26 +40,26 @@ fn put_record(out: &mut [u8], what: Record, dests: &[u64], name: &[u8]) -> usize
             transport,
             count,
         } => {
-            let p = put_fields(out, b"job", [clock, transport, count], 3);
-            put_list(out, p, dests, count)
+            let p = put_fields(out, b"job", &[clock, transport, count]);
+            put_list(out, p, &dests[..at_most(count, dests.len())])
         }
-        Record::Pick { clock } => put_fields(out, b"pick", [clock, 0, 0], 1),
+        Record::Pick { clock } => put_fields(out, b"pick", &[clock]),
         Record::Report {
             clock,
             entry,
             ticket,
             outcome,
         } => {
-            let p = put_fields(out, b"report", [clock, entry, ticket], 3);
+            let p = put_fields(out, b"report", &[clock, entry, ticket]);
             put_outcome(out, p, outcome)
         }
     }
 }
 
-// A word, and the first n of these numbers.
-fn put_fields(out: &mut [u8], word: &[u8], fields: [u64; 3], n: u64) -> usize {
+// A word, and these numbers.
+fn put_fields(out: &mut [u8], word: &[u8], fields: &[u64]) -> usize {
     let p = put(out, 0, word);
-    put_list(out, p, &fields, n)
+    put_list(out, p, fields)
 }
 
 fn put_outcome(out: &mut [u8], at: usize, outcome: Outcome) -> usize {
@@ -74,22 +72,16 @@ fn put_outcome(out: &mut [u8], at: usize, outcome: Outcome) -> usize {
 // Each byte as a number.
 pub fn put_bytes(out: &mut [u8], at: usize, bytes: &[u8]) -> usize {
     let mut p = at;
-    let mut i: usize = 0;
-    while i < bytes.len() {
-        p = put_number(out, p, bytes[i] as u64);
-        i += 1;
+    for &b in bytes {
+        p = put_number(out, p, u64::from(b));
     }
     p
 }
 
-// So many places of the list.
-fn put_list(out: &mut [u8], at: usize, list: &[u64], n: u64) -> usize {
-    let count = at_most(n, list.len());
+fn put_list(out: &mut [u8], at: usize, list: &[u64]) -> usize {
     let mut p = at;
-    let mut i: usize = 0;
-    while i < count {
-        p = put_number(out, p, list[i]);
-        i += 1;
+    for &x in list {
+        p = put_number(out, p, x);
     }
     p
 }
@@ -101,5 +93,5 @@ pub fn put_replay(out: &mut [u8], journal: &[u8], budget: u64) -> usize {
     let mut p = put_text(out, 0, r.length as u64, &space);
     p = put(out, p, b" used");
     p = put_number(out, p, r.used);
-    put_byte(out, p, 10)
+    put_byte(out, p, b'\n')
 }

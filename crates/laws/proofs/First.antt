@@ -1,6 +1,8 @@
 -- Laws of first_to, greatest_to and chosen_to.
 use Prim.Native.Nat.{ℕ, zero, suc, ◌+◌, ◌≤◌, ◌<◌}
-use mathlib.Core.Bool.{Bool, true, false}
+use mathlib.Core.Bool.{Bool, true, false, cond}
+use borrow.Author.Rules.{rules}
+use Rattle.std.specs.Prelude.{Some, None}
 use mathlib.Core.Path.{◌≡◌, refl, sym, ◌∙◌}
 use mathlib.Core.Logic.{⊎_elim}
 use mathlib.Core.List.{List, [], ◌∷◌, ◌++◌}
@@ -13,7 +15,7 @@ use lib.ListN.{length, get_or, set, drop, length-append, get_or-append}
 use lib.Seq.{get_or_at}
 use borrow.Author.Tests.{ltb-true, ltb-false, lt-ltb}
 use Rattle.laws.specs.Bools.{when◌then◌else◌, one}
-use Rattle.laws.specs.Range.{any_to, count_to, first_to, greatest_to, chosen_to}
+use Rattle.laws.specs.Range.{any_to, count_to, first_to, first_below, greatest_to, chosen_to}
 use Rattle.laws.proofs.Bools.{true_not_false, case_bool, bool_same, if_cases, one_true}
 use Rattle.laws.proofs.All.{below_suc, any_of, any_witness}
 use Rattle.laws.proofs.Count.{count_suc, count_more, count_miss, count_le_bound, count_injective}
@@ -82,6 +84,17 @@ module _ (p : ℕ → Bool) where
       bool_same
       (λ h. let l = ltb-true (first_to p n) n h in any_of p n (first_to p n) l (first_holds n l))
       (λ h. let w = any_witness p n h in lt-ltb (first_to p n) n (first_found n w.0 w.1 w.2))
+
+  -- what is found below n is the least
+  pub first_below_some : (n i : ℕ) → first_below p n ≡ Some i → (i ≡ first_to p n) × (i < n)
+  first_below_some n i = by_test (ltb (first_to p n) n) (ltb-true (first_to p n) n)
+    where
+      by_test : (b : Bool) → (b ≡ true → first_to p n < n) → cond b (Some (first_to p n)) None ≡ Some i → (i ≡ first_to p n) × (i < n)
+      by_test true l e = let h : i ≡ first_to p n = search rules in (h, rw h (l refl))
+      by_test false l e = absurd cc
+
+  pub first_below_is : (n : ℕ) → first_to p n < n → first_below p n ≡ Some (first_to p n)
+  first_below_is n l = rw (lt-ltb (first_to p n) n l) refl
 
   -- the greatest up to n passes, where 0 does, and none up to n that passes is above it
   pub greatest_le : (n : ℕ) → greatest_to p n ≤ n

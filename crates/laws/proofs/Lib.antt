@@ -1,6 +1,7 @@
 -- Tests: what is chosen by one, several joined, and over the numbers below a bound.
 
 pub mod Bools
+pub mod Iterated
 pub mod Joined
 pub mod All
 pub mod Count

@@ -2,7 +2,7 @@
 use Prim.Native.Nat.{ℕ, zero, suc, ◌≤◌, ◌<◌}
 use mathlib.Core.Bool.{Bool, true, false, ◌&&◌, ◌||◌}
 use mathlib.Core.Path.{◌≡◌, refl, sym, ◌∙◌, ap}
-use mathlib.Core.Logic.{◌⊎◌, ⊎_elim, ◌≢◌}
+use mathlib.Core.Logic.{⊎_elim, ◌≢◌}
 use native.Mathlib.Nat.{not-suc-le-zero, le_of_suc-le-suc, le_step, le_refl, lt_trans, lt_irrefl, le_trans}
 use native.Mathlib.Decide.{ℕ_discrete}
 use lib.Dec.{eqb}

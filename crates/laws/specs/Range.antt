@@ -1,5 +1,5 @@
 -- What holds, is counted, summed or found over the numbers 0 to n - 1. Each recurses on the bound.
-use Rattle.std.specs.Prelude.{ℕ, zero, suc, ◌+◌, Bool, true, false, ◌&&◌, ◌||◌, List, [], ◌∷◌, ◌++◌, ltb}
+use Rattle.std.specs.Prelude.{ℕ, zero, suc, ◌+◌, Bool, true, false, ◌&&◌, ◌||◌, cond, List, [], ◌∷◌, ◌++◌, Option, Some, None, ltb}
 use Rattle.laws.specs.Bools.{when◌then◌else◌, one}
 
 -- the test holds at every number below n
@@ -26,6 +26,10 @@ sum_to f (suc n) = sum_to f n + f n
 unfoldable pub first_to : (ℕ → Bool) → ℕ → ℕ
 first_to p zero = 0
 first_to p (suc n) = when ltb (first_to p n) n then first_to p n else (when p n then n else suc n)
+
+-- that number, if there is one
+abbrev pub first_below : (ℕ → Bool) → ℕ → Option ℕ
+first_below p n = cond (ltb (first_to p n) n) (Some (first_to p n)) None
 
 -- the link to the greatest number below n that passes the test: 0 where there is none, else the number plus 1
 unfoldable pub last_to : (ℕ → Bool) → ℕ → ℕ

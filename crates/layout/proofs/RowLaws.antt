@@ -9,12 +9,7 @@ use Rattle.laws.specs.Range.{table_to}
 use Rattle.laws.specs.Sequence.{padded}
 use Rattle.laws.proofs.Table.{table_is}
 use Rattle.laws.proofs.Sequence.{length_padded, get_or_padded}
-use Rattle.rules.specs.declared.Move.{Move}
-use Rattle.rules.specs.declared.ReportAnswer.{ReportAnswer}
-use Rattle.rules.specs.Windows.{move_number}
-use Rattle.rules.specs.Calls.{granted}
-use Rattle.rules.specs.Answers.{report_says}
-use Rattle.layout.specs.Layout.{row_values, row_length, answer_row}
+use Rattle.layout.specs.Layout.{row_values, row_length}
 
 -- a table of a list's places is the list with its zeros
 pub table_padded : (n : ℕ) (vs : List ℕ) → length vs ≤ n → table_to (λ i. get_or vs i 0) n ≡ padded n vs
@@ -50,8 +45,3 @@ module _ (l : List ℕ) (r n : ℕ) (h : length l ≡ row_length) where
       → put_mid 2 (length begun - 2) begun z
       ≡ r ∷ n ∷ padded row_values values
   row_is values z e = behind_two l r n z (omega (arith, h)) ∙ ap (λ x. r ∷ n ∷ x) (e ∙ ap (λ k. padded k values) part_length)
-
--- a report's row, with the number of why the number moved
-pub report_row : {row : List ℕ} {putoff k : ℕ} {m : Move} {a : ReportAnswer}
-    → row ≡ answer_row (granted (putoff ∷ k ∷ [])) → k ≡ move_number m → a ≡ ReportAnswer.Reported putoff m → row ≡ answer_row (report_says a)
-report_row e n h = rw (h, ← n) e

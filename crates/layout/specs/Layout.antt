@@ -3,7 +3,8 @@ use Rattle.std.specs.Prelude.{ℕ, zero, suc, ◌+◌, ◌-◌, Bool, ◌||◌, 
 use Rattle.laws.specs.Bools.{when◌then◌else◌}
 use Rattle.laws.specs.Sequence.{padded}
 use Rattle.rules.specs.declared.Outcome.{Outcome}
-use Rattle.rules.specs.declared.Outcome.TheVariants
+use Rattle.layout.specs.declared.RunEnd.{RunEnd}
+use Rattle.layout.specs.declared.RunEnd.TheVariants.{Refused, Whole, Short, Unknown, NoRoom}
 use Rattle.rules.specs.Calls.{Says, Reply, Call, job, pick, report, ask, board}
 
 abbrev pub word : List ℕ → ℕ → ℕ
@@ -89,6 +90,14 @@ end_before words answers lists texts =
     else when ltb (length words) (size_of words) then 2
     else when lacks_room words answers lists texts then 4
     else 0
+
+-- each end's number: so, or 0 where the set-up was refused
+abbrev pub end_number : RunEnd → ℕ
+end_number Refused = 0
+end_number Whole = 1
+end_number Short = 2
+end_number Unknown = 3
+end_number NoRoom = 4
 
 -- The calls that are run, and why it ends.
 

@@ -1,7 +1,7 @@
 -- Who stays: jobs that lost no entry stay as they were, the others are looked at.
 use Prim.Native.Nat.{ℕ, ◌+◌, ◌<◌}
 use mathlib.Core.Path.{◌≡◌, refl, sym, ◌∙◌, ap}
-use mathlib.Core.Bool.{Bool, false}
+use mathlib.Core.Bool.{Bool, true, false}
 use mathlib.Core.List.{List, ◌++◌}
 use native.Mathlib.Numerals.{add-one}
 use lib.ListN.{length, get_or, set, drop}
@@ -29,3 +29,11 @@ stay_one kind job present of {v} len others is =
     ap (λ l. set l of v) (sym (table_is (λ j. get_or present j false) false present 32 len (λ j l. refl)))
     ∙ table_write (λ j. get_or present j false) (stays_at kind job present 512) 32 of v is
     (λ j l ne. sym (stay_other kind job present (λ j. eqb j of) others j l (ne_eqb j of ne)))
+
+-- a job stays that is present and has an entry, and none that is absent
+pub stays_both : (kind job : List ℕ) (present : List Bool) (j : ℕ) {v : Bool} → get_or present j false ≡ true → v ≡ any_to (used_at kind job j) 512
+    → v ≡ stays_at kind job present 512 j
+stays_both kind job present j p is = rw p is
+
+pub stays_absent : (kind job : List ℕ) (present : List Bool) (j : ℕ) → get_or present j false ≡ false → false ≡ stays_at kind job present 512 j
+stays_absent kind job present j p = sym (and_left_false (any_to (used_at kind job j) 512) p)

@@ -1,56 +1,44 @@
 // Document 01, "Every job then without a waiting or busy entry leaves": who stays after a report, and who adopts the children of those that leave.
 #![tactic(auto)]
 
-ghost use Rattle.std.specs.Prelude.{◌≡◌, true, false, ℕ, ◌<◌, get_or, eqb};
+ghost use Rattle.std.specs.Prelude.{◌≡◌, true, false, ℕ, ◌<◌, get_or, eqb, MatchOption};
 ghost use Rattle.laws.specs.Range.{any_to, table_to};
 ghost use Rattle.rules.specs.State.{at};
 ghost use Rattle.charging.specs.Links.{leads_inside};
 ghost use Rattle.leaving.specs.Leaving.{used_at, stays_at, elsewhere, emptied, OthersStay, nearest_of, adopted_at};
 
-use columns::wide;
-
 // Whether job j has a waiting or busy entry.
-fn has_entry<'a>(kind: &'a [u8; 512], job: &'a [u8; 512], j: u8) -> bool
+fn has_entry(kind: &[u8; 512], job: &[u8; 512], j: u8) -> bool
     ensures { result ≡ any_to (used_at kind.now job.now j) 512 }
 {
-    let mut any = false;
-    let mut e: usize = 0;
-    while e < 512 {
-        any = any | ((kind[e] != 0) & (job[e] == j));
-        e += 1;
-    }
-    any
+    kind.iter()
+        .zip(job)
+        .any(|(&k, &owner)| k != 0 && owner == j)
 }
 
 // An entry of job j waits for a destination other than d, by the table of the soundness test.
-fn waits_elsewhere(pairs: &[u16; 1024], j: usize, d: usize) -> bool
+fn waits_elsewhere(pairs: &[u16; 1024], j: usize, d: u8) -> bool
     requires { j < 32 }
     ensures { result ≡ any_to (elsewhere pairs.now d j) 32 }
 {
-    let mut any = false;
-    let mut x: usize = 0;
-    while x < 32 {
-        any = any | ((0 < pairs[32 * j + x]) & (x != d));
-        x += 1;
-    }
-    any
+    let row = &pairs[32 * j..32 * j + 32];
+    row.iter()
+        .enumerate()
+        .any(|(x, &n)| 0 < n && x != usize::from(d))
 }
 
 // Job j may be left without an entry where destination d dies at a report of an entry of the job `of`: it loses one, and none of its waits elsewhere.
-fn may_be_empty(pairs: &[u16; 1024], j: usize, d: usize, of: usize) -> bool
+fn may_be_empty(pairs: &[u16; 1024], j: usize, d: u8, of: u8) -> bool
     requires { (j < 32) × (d < 32) }
     ensures { result ≡ emptied pairs.now d of j }
 {
-    if (0 < pairs[32 * j + d]) | (j == of) {
-        return !waits_elsewhere(pairs, j, d);
-    }
-    false
+    (0 < pairs[32 * j + usize::from(d)] || j == usize::from(of)) && !waits_elsewhere(pairs, j, d)
 }
 
 // Which of the present jobs stay where destination d died: only those that may be left without an entry are looked at.
-fn left_with_some<'a>(
-    kind: &'a [u8; 512],
-    job: &'a [u8; 512],
+fn left_with_some(
+    kind: &[u8; 512],
+    job: &[u8; 512],
     pairs: &[u16; 1024],
     present: [bool; 32],
     d: u8,
@@ -59,60 +47,52 @@ fn left_with_some<'a>(
     requires { (d < 32) × OthersStay (emptied pairs.now d of) kind.now job.now present }
     ensures { result ≡ table_to (stays_at kind.now job.now present 512) 32 }
 {
-    let to = d as usize;
-    let own = of as usize;
     let mut stays = present;
-    let mut j: usize = 0;
-    while j < 32 {
-        if may_be_empty(pairs, j, to, own) {
-            stays[j] = present[j] & has_entry(kind, job, j as u8);
+    for j in 0..32 {
+        if may_be_empty(pairs, j, d, of) {
+            stays[j] = present[j] && has_entry(kind, job, j as u8);
         }
-        j += 1;
     }
     stays
 }
 
 // Which of the present jobs stay after a report of an entry of the job `of`. Where its destination did not die, no other job has lost an entry, and
 // only this one is looked at.
-pub fn staying<'a>(
-    kind: &'a [u8; 512],
-    job: &'a [u8; 512],
+pub fn staying(
+    kind: &[u8; 512],
+    job: &[u8; 512],
     pairs: &[u16; 1024],
     present: [bool; 32],
-    died: bool,
-    d: u8,
+    dead: Option<u8>,
     of: u8,
 ) -> [bool; 32]
-    requires { (d < 32) × (of < 32) × (died ≡ true → OthersStay (emptied pairs.now d of) kind.now job.now present)
-        × (died ≡ false → OthersStay (λ j. eqb j of) kind.now job.now present) }
+    requires { (of < 32) × MatchOption dead (OthersStay (λ j. eqb j of) kind.now job.now present)
+        (λ d. (d < 32) × OthersStay (emptied pairs.now d of) kind.now job.now present) }
     ensures { result ≡ table_to (stays_at kind.now job.now present 512) 32 }
 {
-    if died {
+    if let Some(d) = dead {
         return left_with_some(kind, job, pairs, present, d, of);
     }
-    let j = of as usize;
+    let j = usize::from(of);
     let mut stays = present;
-    stays[j] = present[j] & has_entry(kind, job, of);
+    stays[j] = present[j] && has_entry(kind, job, of);
     stays
 }
 
-// The link to the nearest job of a chain that stays, 0 for none. At most 32 steps.
-fn nearest(stays: &[bool; 32], parent: &[u8; 32], link: u8) -> u8
+// The link to the nearest job of a chain that stays, 0 for none, as the column of parents has it. At most 32 steps.
+fn nearest(stays: &[bool; 32], parent: &[u8; 32], mut link: u8) -> u8
     requires { leads_inside (at parent.now) 32 link ≡ true }
     ensures { result ≡ nearest_of stays.now parent.now link }
 {
-    let mut link = link;
-    let mut left: u8 = 32;
-    while 0 < left {
+    for _ in 0..32u8 {
         if link == 0 {
             return 0;
         }
-        let j = wide(link) - 1;
+        let j = usize::from(link) - 1;
         if stays[j] {
             return link;
         }
         link = parent[j];
-        left -= 1;
     }
     0
 }
@@ -122,15 +102,11 @@ pub fn adopt(stays: &[bool; 32], parent: &[u8; 32]) -> [u8; 32]
     requires { (j : ℕ) → j < 32 → get_or stays.now j false ≡ true → leads_inside (at parent.now) 32 (at parent.now j) ≡ true }
     ensures { result ≡ table_to (adopted_at stays.now parent.now) 32 }
 {
-    let mut next = [0u8; 32];
-    let mut j: usize = 0;
-    while j < 32 {
-        let mut link = parent[j];
+    let mut next = *parent;
+    for j in 0..32 {
         if stays[j] {
-            link = nearest(stays, parent, link);
+            next[j] = nearest(stays, parent, parent[j]);
         }
-        next[j] = link;
-        j += 1;
     }
     next
 }

@@ -1,34 +1,44 @@
--- Looking for the first number that passes a test, one after the other.
-use Prim.Native.Nat.{ℕ, ◌+◌, ◌≤◌, ◌<◌}
-use mathlib.Core.Path.{◌≡◌, subst}
-use mathlib.Core.Bool.{Bool, true, false}
-use native.Mathlib.Omega.{arith}
-use native.Mathlib.Decide.{dec_lt}
+-- The first place of a part of a list that passes a test, from the library's `position`.
+use Rattle.std.proofs.Common.{ℕ, ◌≡◌, ◌+◌, ◌-◌, ◌≤◌, ◌<◌, Bool, true, false, not, cond, List, length, get_or, take, drop, ltb, Option, Some, None, refl, sym, ap, ◌∙◌, length-drop, arith}
+use Rattle.std.specs.List.{position_or_len, position}
+use Rattle.std.proofs.lemmas.List.Sums.{prefix_len-le-length, fails_before_first, passes_at_first}
+use lib.Seq.{get_or-take, get_or-drop, length-take-le}
+use borrow.Author.Tests.{ltb-false}
 use Rattle.lines.specs.Words.{FirstFrom}
 
--- none before i passes
-pub record NoneYet (p : ℕ → Bool) (from to i : ℕ) : Type 0 where
-  pub start : from ≤ i
-  pub end : i ≤ to
-  pub before : (k : ℕ) → from ≤ k → k < i → p k ≡ false
+-- a place of a part that stands from `from` on and ends at `to`, or none
+module _ (p : ℕ → Bool) (s part : List ℕ) (from to : ℕ) (h : from ≤ to) (long : length part ≡ to - from) (same : (i : ℕ) → i < to - from → get_or part i 0 ≡ get_or s (from + i) 0) where
+  first : FirstFrom (λ i. p (get_or s i 0)) from to (from + position_or_len p part)
+  first =
+      let n = position_or_len p part in
+      let e : position_or_len p part ≤ to - from = omega (arith, prefix_len-le-length (λ x. not (p x)) part, long) in
+      record {
+        start = omega arith;
+        end = omega (arith, e, h);
+        before = λ i l m.
+            let k : from + (i - from) ≡ i = omega (arith, l) in
+            rw k at (ap p (sym (same (i - from) (omega (arith, l, m, e)))) ∙ fails_before_first p part (i - from) 0 (omega (arith, l, m)));
+        there = λ l. ap p (sym (same n (omega (arith, l)))) ∙ passes_at_first p part 0 (omega (arith, l, long));
+      }
 
-module _ (p : ℕ → Bool) (from to : ℕ) where
-  pub none_yet : from ≤ to → NoneYet p from to from
-  none_yet h = record { start = omega arith; end = h; before = λ k l m. absurd (omega (arith, l, m)) }
+  pub first_some : {i : ℕ} → Some i ≡ position p part → FirstFrom (λ i. p (get_or s i 0)) from to (from + i)
+  first_some {i} e = go (ltb (position_or_len p part) (length part)) e
+    where
+      go : (b : Bool) → Some i ≡ cond b (Some (position_or_len p part)) None → FirstFrom (λ i. p (get_or s i 0)) from to (from + i)
+      go true e = let k : position_or_len p part ≡ i = cc in rw k at first
+      go false e = absurd cc
 
-  module _ (i : ℕ) (n : NoneYet p from to i) where
-    pub none_more : i < to → p i ≡ false → NoneYet p from to (i + 1)
-    none_more h f = record {
-      start = omega (arith, n.start);
-      end = omega arith;
-      before = λ k l m. elim (dec_lt k i) [
-        | yes u ↦ n.before k l u
-        | no u ↦ let e : i ≡ k = omega (arith, m) in subst (λ x. p x ≡ false) e f
-      ];
-    }
+  pub first_none : None ≡ position p part → FirstFrom (λ i. p (get_or s i 0)) from to to
+  first_none e = go (ltb (position_or_len p part) (length part)) refl e
+    where
+      go : (b : Bool) → ltb (position_or_len p part) (length part) ≡ b → ◌≡◌ {A = Option ℕ} None (cond b (Some (position_or_len p part)) None) → FirstFrom (λ i. p (get_or s i 0)) from to to
+      go true l e = absurd cc
+      go false l e =
+          let k : from + position_or_len p part ≡ to = omega (arith, h, long, ltb-false _ _ l, prefix_len-le-length (λ x. not (p x)) part) in
+          rw k at first
 
-    pub first_there : p i ≡ true → FirstFrom p from to i
-    first_there t = record { start = n.start; end = n.end; before = n.before; there = λ h. t }
+pub part_length : (s : List ℕ) (from to : ℕ) → to ≤ length s → length (take (to - from) (drop from s)) ≡ to - from
+part_length s from to w = length-take-le (to - from) (drop from s) (omega (arith, length-drop from s))
 
-    pub first_none : to ≤ i → FirstFrom p from to i
-    first_none h = record { start = n.start; end = n.end; before = n.before; there = λ l. absurd (omega (arith, h, l)) }
+pub part_at : (s : List ℕ) (from to i : ℕ) → i < to - from → get_or (take (to - from) (drop from s)) i 0 ≡ get_or s (from + i) 0
+part_at s from to i l = get_or-take (to - from) (drop from s) i 0 l ∙ get_or-drop from s i 0

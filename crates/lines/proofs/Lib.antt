@@ -3,5 +3,4 @@ pub mod NumberLaws
 pub mod PutLaws
 pub mod ReadingLaws
 pub mod SetupLaws
-pub mod ShiftLaws
 pub mod WordLaws

@@ -8,12 +8,11 @@ use native.Mathlib.Numerals.{add-one}
 use native.Mathlib.Nat.{le_trans}
 use lib.ListN.{length, get_or, drop, drop_of_length-le}
 use lib.Seq.{drop-cons}
-use lib.Dec.{leb}
-use borrow.Author.Tests.{le-leb, lt-leb, lt-ltb, le-ltb}
+use borrow.Author.Tests.{le-leb, lt-ltb, le-ltb}
 use Rattle.laws.specs.Bools.{when◌then◌else◌}
 use Rattle.laws.specs.Sequence.{every_in}
 use Rattle.laws.proofs.Bools.{if_false, and_left_false, and_right_false}
-use Rattle.lines.specs.declared.text.Number.{Number}
+use Rattle.std.proofs.Common.{Some, None}
 use Rattle.lines.specs.Words.{is_digit, value_from, value_of, is_number, number_of}
 
 -- more digits make no number smaller
@@ -33,12 +32,12 @@ pub valued_start : (word : List ℕ) → Valued word 0 0
 unfolding value_of
 valued_start word = record { within = omega arith; small = omega arith; digits = refl; value = refl }
 
-pub not_number : (word : List ℕ) → is_number word ≡ false → Number.No ≡ number_of word
+pub not_number : (word : List ℕ) → is_number word ≡ false → None ≡ number_of word
 unfolding number_of
 not_number word h = sym (if_false _ _ h)
 
 module _ (word : List ℕ) (x i : ℕ) (v : Valued word x i) where
-  pub valued_end : length word ≤ i → Number.Is x ≡ number_of word
+  pub valued_end : length word ≤ i → Some x ≡ number_of word
   unfolding number_of is_number value_from every_in when◌then◌else◌
   valued_end h =
       let e : drop i word ≡ [] = drop_of_length-le word h in
@@ -55,17 +54,11 @@ module _ (word : List ℕ) (x i : ℕ) (v : Valued word x i) where
     unfolding value_from
     value_next = v.value ∙ rw (drop-cons word i 0 h)
 
-    pub not_digit : is_digit (get_or word i 0) ≡ false → Number.No ≡ number_of word
+    pub not_digit : is_digit (get_or word i 0) ≡ false → None ≡ number_of word
     unfolding is_number
     not_digit f = not_number word (and_left_false _ (digits_next ∙ and_left_false _ f))
 
-    pub below_digits : get_or word i 0 < 48 → Number.No ≡ number_of word
-    below_digits l = not_digit (and_left_false _ (lt-leb 48 (get_or word i 0) l))
-
-    pub above_digits : 57 < get_or word i 0 → Number.No ≡ number_of word
-    above_digits l = not_digit (and_right_false (leb 48 (get_or word i 0)) (lt-leb (get_or word i 0) 57 l))
-
-    pub too_large : 18446744073709551616 ≤ x * 10 + (get_or word i 0 - 48) → Number.No ≡ number_of word
+    pub too_large : 18446744073709551616 ≤ x * 10 + (get_or word i 0 - 48) → None ≡ number_of word
     unfolding is_number
     too_large l =
         let g : 18446744073709551616 ≤ value_of word = rw value_next (le_trans l (value_grows _ _)) in

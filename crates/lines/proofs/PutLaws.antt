@@ -104,11 +104,15 @@ module _ (list e : List ℕ) (at i : ℕ) {x : List ℕ} {p : ℕ} (v : Put (num
       (put_more v w)
 
 -- as many as asked, or all
-pub take_most : (n : ℕ) (l : List ℕ) (i : ℕ) {k : ℕ} → k ≡ min n (length l) → k ≡ i → take i l ≡ take n l
-take_most n l i {k} e h = elim (dec_lt n (length l)) [
-  | yes m ↦ let f : i ≡ n = omega arith in rw f
-  | no m ↦ take_all i l (omega arith) ∙ sym (take_all n l (omega arith))
+
+pub take_min : (n : ℕ) (l : List ℕ) {k : ℕ} → k ≡ min n (length l) → take k l ≡ take n l
+take_min n l {k} e = elim (dec_lt n (length l)) [
+  | yes m ↦ let f : k ≡ n = omega arith in rw f
+  | no m ↦ take_all k l (omega arith) ∙ sym (take_all n l (omega arith))
 ]
+
+pub take_most : (n : ℕ) (l : List ℕ) {k i : ℕ} → k ≡ min n (length l) → length (take k l) ≤ i → take i (take k l) ≡ take n l
+take_most n l {k} {i} e h = take_all i (take k l) h ∙ take_min n l e
 
 -- Byte after byte of a text that is shown.
 

@@ -11,26 +11,26 @@ use lib.ListN.{length, set, take, drop, length-set, drop_of_length-le}
 use lib.Seq.{take-suc-set}
 use Rattle.laws.specs.Bools.{when◌then◌else◌}
 use Rattle.laws.proofs.Bools.{and_left_false, true_not_false}
-use Rattle.lines.specs.declared.text.Number.{Number}
+use Rattle.std.proofs.Common.{Some, None}
 use Rattle.lines.specs.Words.{pieces, not_empty, words_of, value_of, is_number, all_numbers, numbers_of, number_of, FirstFrom, is_byte, not_blank, Read}
 use Rattle.lines.proofs.WordLaws.{words_skip, words_first}
 
 -- A number, or none.
 
 module _ (word : List ℕ) where
-  pub number_is : (x : ℕ) → number_of word ≡ Number.Is x → (is_number word ≡ true) × (value_of word ≡ x)
+  pub number_is : (x : ℕ) → number_of word ≡ Some x → (is_number word ≡ true) × (value_of word ≡ x)
   unfolding number_of when◌then◌else◌
   number_is x h = go (is_number word) refl h
     where
-      go : (b : Bool) → is_number word ≡ b → (when b then Number.Is (value_of word) else Number.No) ≡ Number.Is x → (is_number word ≡ true) × (value_of word ≡ x)
+      go : (b : Bool) → is_number word ≡ b → (when b then Some (value_of word) else None) ≡ Some x → (is_number word ≡ true) × (value_of word ≡ x)
       go true e h = (e, cc)
       go false e h = let z : ◌≡◌ {A = ℕ} 0 1 = cc in absurd (omega arith)
 
-  pub number_not : number_of word ≡ Number.No → is_number word ≡ false
+  pub number_not : number_of word ≡ None → is_number word ≡ false
   unfolding number_of when◌then◌else◌
   number_not h = go (is_number word) refl h
     where
-      go : (b : Bool) → is_number word ≡ b → (when b then Number.Is (value_of word) else Number.No) ≡ Number.No → is_number word ≡ false
+      go : (b : Bool) → is_number word ≡ b → (when b then Some (value_of word) else None) ≡ None → is_number word ≡ false
       go true e h = let z : ◌≡◌ {A = ℕ} 0 1 = cc in absurd (omega arith)
       go false e h = e
 
@@ -89,7 +89,7 @@ module _ (s : List ℕ) (from : ℕ) (out₀ out : List ℕ) (count at : ℕ) (r
       next : words_of (drop at s) ≡ word ∷ words_of (drop end s)
       next = words_first s at end (r.begun h) f
 
-      pub reading_not : number_of word ≡ Number.No → Read (words_of (drop from s)) false 0 out
+      pub reading_not : number_of word ≡ None → Read (words_of (drop from s)) false 0 out
       unfolding all_numbers when◌then◌else◌
       reading_not e =
           record {
@@ -98,7 +98,7 @@ module _ (s : List ℕ) (from : ℕ) (out₀ out : List ℕ) (count at : ℕ) (r
             front = refl;
           }
 
-      module _ (x : ℕ) (e : number_of word ≡ Number.Is x) (at₁ : ℕ) (g : FirstFrom (not_blank s) end (length s) at₁) where
+      module _ (x : ℕ) (e : number_of word ≡ Some x) (at₁ : ℕ) (g : FirstFrom (not_blank s) end (length s) at₁) where
         pub reading_more : Reading s from out₀ (set out count x) (count + 1) at₁
         unfolding all_numbers
         reading_more =

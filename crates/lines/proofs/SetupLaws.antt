@@ -1,11 +1,13 @@
 -- A set-up made from numbers, part by part.
 use Prim.Native.Nat.{ℕ, ◌+◌, ◌*◌, ◌-◌, ◌/◌, ◌≤◌, ◌<◌}
 use mathlib.Core.Path.{◌≡◌, refl, ◌∙◌}
+use Rattle.std.proofs.Common.{Bool, true, false, Some, None, eqb}
+use Rattle.std.specs.Bool.{then_some}
 use mathlib.Core.List.{List, [], ◌∷◌, ◌++◌}
 use native.Mathlib.Nat.{div-lt_iff_lt-mul}
 use native.Mathlib.Omega.{arith}
 use lib.ListN.{length, drop}
-use borrow.Author.Tests.{eq-eqb, ne_eqb, le-leb, lt-leb}
+use borrow.Author.Tests.{eqb-true, eqb-false, eq-eqb, ne_eqb, le-leb, lt-leb}
 use Rattle.laws.specs.Bools.{when◌then◌else◌}
 use Rattle.laws.specs.Range.{table_to}
 use Rattle.laws.proofs.Fill.{fill_all}
@@ -17,29 +19,36 @@ use Rattle.lines.specs.Setups.{place_of_d, announced, count_place, settings_at, 
 -- Whether the numbers are as many as announced.
 
 module _ (words : List ℕ) where
-  not_announced : (length words ≡ place_of_d words + 1 + at words (place_of_d words) → ⊥) → 0 ≡ count_place words
+  not_announced : (length words ≡ place_of_d words + 1 + at words (place_of_d words) → ⊥) → None ≡ count_place words
   unfolding count_place announced when◌then◌else◌
   not_announced h = rw (ne_eqb (length words) (place_of_d words + 1 + at words (place_of_d words)) h) refl
 
   module _ (t : ℕ) (e : t ≡ at words 0) where
-    pub too_many : length words / 13 < t → 0 ≡ count_place words
+    pub too_many : length words / 13 < t → None ≡ count_place words
     too_many h = let l : length words < t * 13 = (div-lt_iff_lt-mul {k = 13} (omega arith)).0 h in not_announced (λ q. omega (arith, e, q))
 
-    pub no_place : length words ≤ 1 + 13 * t → 0 ≡ count_place words
+    pub no_place : length words ≤ 1 + 13 * t → None ≡ count_place words
     no_place h = not_announced (λ q. omega (arith, e, q))
 
     module _ (d : ℕ) (f : d ≡ at words (1 + 13 * t)) (h : 1 + 13 * t < length words) where
       same_place : d ≡ at words (place_of_d words)
       same_place = rw e at f
 
-      pub other_count : (d ≡ length words - (1 + 13 * t) - 1 → ⊥) → 0 ≡ count_place words
+      other_count : (d ≡ length words - (1 + 13 * t) - 1 → ⊥) → None ≡ count_place words
       other_count n = not_announced (λ q. n (omega (arith, e, q, same_place)))
 
-      pub the_count : d ≡ length words - (1 + 13 * t) - 1 → 1 + 13 * t ≡ count_place words
+      the_count : d ≡ length words - (1 + 13 * t) - 1 → Some (1 + 13 * t) ≡ count_place words
       unfolding count_place announced when◌then◌else◌
       the_count q =
           let k : length words ≡ place_of_d words + 1 + at words (place_of_d words) = omega (arith, e, q, same_place) in
           rw (eq-eqb (length words) (place_of_d words + 1 + at words (place_of_d words)) k, e) refl
+
+      pub counted_as : then_some (eqb d (length words - (1 + 13 * t) - 1)) (1 + 13 * t) ≡ count_place words
+      counted_as = go (eqb d (length words - (1 + 13 * t) - 1)) refl
+        where
+          go : (b : Bool) → eqb d (length words - (1 + 13 * t) - 1) ≡ b → then_some b (1 + 13 * t) ≡ count_place words
+          go true e = the_count (eqb-true _ _ e)
+          go false e = other_count (eqb-false _ _ e)
 
 -- Settings.
 

@@ -107,3 +107,7 @@ same_pointwise [] [] = refl
 same_pointwise [] (y ∷ b) = refl
 same_pointwise (x ∷ a) [] = refl
 same_pointwise (x ∷ a) (y ∷ b) = ap (λ t. eqb x y && t) (same_pointwise a b)
+
+-- what `==` told of two slices, the second of known bytes
+pub same_is : (a : List ℕ) {b d : List ℕ} {r t : Bool} → r ≡ pointwise eqb a b → b ≡ d → r ≡ t → same_bytes a d ≡ t
+same_is a {b} {d} e h t = sym (e ∙ ap (pointwise eqb a) h ∙ same_pointwise a d) ∙ t

@@ -1,5 +1,5 @@
 -- A set-up read from numbers: T, then T times 13 numbers, then D, then D homes.
-use Rattle.std.specs.Prelude.{ℕ, ◌+◌, ◌*◌, Bool, List, length, eqb, leb}
+use Rattle.std.specs.Prelude.{ℕ, ◌+◌, ◌*◌, Bool, List, length, Option, Some, None, eqb, leb}
 use Rattle.laws.specs.Bools.{when◌then◌else◌}
 use Rattle.laws.specs.Range.{table_to}
 use Rattle.rules.specs.declared.Settings.{Settings}
@@ -14,9 +14,9 @@ place_of_d words = 1 + 13 * at words 0
 unfoldable pub announced : List ℕ → Bool
 announced words = eqb (length words) (place_of_d words + 1 + at words (place_of_d words))
 
--- 0 where they are not
-unfoldable pub count_place : List ℕ → ℕ
-count_place words = when announced words then place_of_d words else 0
+-- none where they are not
+unfoldable pub count_place : List ℕ → Option ℕ
+count_place words = when announced words then Some (place_of_d words) else None
 
 -- the 13 numbers from a place on: agents c L d M window-limit initial positive-percent positive-form negative-percent negative-form cohort-limit suspension
 unfoldable pub settings_at : List ℕ → ℕ → Settings

@@ -1,14 +1,13 @@
 -- The text of each answer, and what it is to put a text into a buffer.
-use Rattle.std.specs.Prelude.{ℕ, ◌+◌, min, max, ◌≡◌, List, [], ◌∷◌, ◌++◌, map, length, get_or, take, eqb}
+use Rattle.std.specs.Prelude.{ℕ, ◌+◌, min, max, ◌≡◌, List, [], ◌∷◌, ◌++◌, map, length, get_or, take, Option, Some, None, Result, Ok, Err, eqb}
 use Rattle.std.proofs.lemmas.List.Edits.{sets}
 use Rattle.laws.specs.Bools.{when◌then◌else◌}
-use Rattle.rules.specs.declared.SetupAnswer.{SetupAnswer}
+use Rattle.rules.specs.declared.Refusal.{Refusal}
 use Rattle.rules.specs.declared.JobAnswer.{JobAnswer}
 use Rattle.rules.specs.declared.PickAnswer.{PickAnswer}
 use Rattle.rules.specs.declared.ReportAnswer.{ReportAnswer}
-use Rattle.rules.specs.declared.AskAnswer.{AskAnswer}
-use Rattle.rules.specs.declared.BoardAnswer.{BoardAnswer}
 use Rattle.rules.specs.Windows.{move_number}
+use Rattle.rules.specs.Answers.{refusal_number}
 use Rattle.rules.specs.Board.{blank, line_end, numbered}
 use Rattle.lines.specs.Names.{setup_name, job_name, pick_name, report_name, ask_name, board_name, nojob_name, nopick_name, refused_name, malformed_name, move_names}
 
@@ -42,29 +41,37 @@ malformed_text = malformed_name ++ line_end
 abbrev pub refused_text : ℕ → List ℕ
 refused_text k = refused_name ++ numbered k ++ line_end
 
-unfoldable pub setup_text : SetupAnswer → List ℕ
-setup_text (SetupAnswer.Refused k) = refused_text k
-setup_text SetupAnswer.Accepted = setup_name ++ line_end
+unfoldable pub setup_text : Result (Unit {0}) Refusal → List ℕ
+setup_text (Err k) = refused_text (refusal_number k)
+setup_text (Ok a) = setup_name ++ line_end
 
-unfoldable pub job_text : JobAnswer → List ℕ → List ℕ
-job_text (JobAnswer.Refused k) list = refused_text k
-job_text (JobAnswer.Taken j putoff) list = job_name ++ numbered j ++ counted putoff list ++ line_end
-job_text (JobAnswer.PutOff putoff) list = nojob_name ++ counted putoff list ++ line_end
+-- a job that came to be, or none
+unfoldable pub taken_text : Option ℕ → ℕ → List ℕ → List ℕ
+taken_text (Some j) putoff list = job_name ++ numbered j ++ counted putoff list ++ line_end
+taken_text None putoff list = nojob_name ++ counted putoff list ++ line_end
 
-unfoldable pub pick_text : PickAnswer → List ℕ
-pick_text (PickAnswer.Refused k) = refused_text k
-pick_text (PickAnswer.Picked j e ticket passed) = pick_name ++ numbered j ++ numbered e ++ numbered ticket ++ numbered passed ++ line_end
-pick_text PickAnswer.Nothing = nopick_name ++ numbered 0 ++ line_end
+unfoldable pub job_text : Result JobAnswer Refusal → List ℕ → List ℕ
+job_text (Err k) list = refused_text (refusal_number k)
+job_text (Ok a) list = taken_text a.job a.putoff list
 
-unfoldable pub report_text : ReportAnswer → List ℕ → List ℕ
-report_text (ReportAnswer.Refused k) list = refused_text k
-report_text (ReportAnswer.Reported putoff m) list = report_name ++ counted putoff list ++ blank ++ move_word (move_number m) ++ line_end
+-- an entry, or none
+unfoldable pub found_text : Option PickAnswer → List ℕ
+found_text (Some a) = pick_name ++ numbered a.job ++ numbered a.entry ++ numbered a.ticket ++ numbered a.passed ++ line_end
+found_text None = nopick_name ++ numbered 0 ++ line_end
 
-unfoldable pub ask_text : AskAnswer → List ℕ
-ask_text (AskAnswer.Refused k) = refused_text k
-ask_text (AskAnswer.Overtakers sum) = ask_name ++ numbered sum ++ line_end
+unfoldable pub pick_text : Result (Option PickAnswer) Refusal → List ℕ
+pick_text (Err k) = refused_text (refusal_number k)
+pick_text (Ok found) = found_text found
+
+unfoldable pub report_text : Result ReportAnswer Refusal → List ℕ → List ℕ
+report_text (Err k) list = refused_text (refusal_number k)
+report_text (Ok a) list = report_name ++ counted a.putoff list ++ blank ++ move_word (move_number a.moved) ++ line_end
+
+unfoldable pub ask_text : Result ℕ Refusal → List ℕ
+ask_text (Err k) = refused_text (refusal_number k)
+ask_text (Ok sum) = ask_name ++ numbered sum ++ line_end
 
 -- of the lent text
-unfoldable pub board_answer_text : BoardAnswer → List ℕ → List ℕ
-board_answer_text (BoardAnswer.Refused k) text = refused_text k
-board_answer_text (BoardAnswer.Written n) text = board_name ++ numbered n ++ blank ++ map shown_byte (take n text) ++ line_end
+unfoldable pub board_answer_text : Result ℕ Refusal → List ℕ → List ℕ
+board_answer_text (Err k) text = refused_text (refusal_number k)
+board_answer_text (Ok n) text = board_name ++ numbered n ++ blank ++ map shown_byte (take n text) ++ line_end

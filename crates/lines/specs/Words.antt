@@ -1,8 +1,7 @@
 -- The words of a line, and words as decimal numbers. docs/DECISIONS.md, "The console".
-use Rattle.std.specs.Prelude.{ℕ, ◌+◌, ◌*◌, ◌-◌, ◌≤◌, ◌<◌, ◌≡◌, Bool, true, false, not, ◌&&◌, List, [], ◌∷◌, map, length, get_or, take, eqb, ltb, leb}
+use Rattle.std.specs.Prelude.{ℕ, ◌+◌, ◌*◌, ◌-◌, ◌≤◌, ◌<◌, ◌≡◌, Bool, true, false, not, ◌&&◌, List, [], ◌∷◌, map, length, get_or, take, Option, Some, None, eqb, ltb, leb}
 use Rattle.laws.specs.Bools.{when◌then◌else◌}
 use Rattle.laws.specs.Sequence.{every_in}
-use Rattle.lines.specs.declared.text.Number.{Number}
 
 -- Words are parted by one or more blanks, byte 32.
 
@@ -78,5 +77,5 @@ pub record Read (words : List (List ℕ)) (whole : Bool) (count : ℕ) (exit : L
   pub fits : count ≤ length exit
   pub front : take count exit ≡ (when whole then numbers_of words else [])
 
-unfoldable pub number_of : List ℕ → Number
-number_of word = when is_number word then Number.Is (value_of word) else Number.No
+unfoldable pub number_of : List ℕ → Option ℕ
+number_of word = when is_number word then Some (value_of word) else None

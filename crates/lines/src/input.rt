@@ -7,13 +7,21 @@ use crate::text::find;
 use std::io;
 use std::io::Read;
 
-// A line, from `start` up to `end` of the buffer. Mode: 0 where it is whole; where its front is gone, 2 if that began with '#', else 1. It is
-// the last one where the input is over. What is read behind it goes from `next` up to `have`.
-#[derive(Drop)]
+// How much of a line is there: all of it; or, of one that was too long, its end, told apart where it began with '#'.
+#[derive(Clone, Copy, PartialEq, Eq)]
+pub enum Part {
+    Whole,
+    TooLong,
+    TooLongComment,
+}
+
+// A line, from `start` up to `end` of the buffer. It is the last one where the input is over. What is read behind it goes from `next` up to
+// `have`.
+#[derive(Clone, Copy)]
 pub struct Line {
     pub start: usize,
     pub end: usize,
-    pub mode: u8,
+    pub part: Part,
     pub over: bool,
     pub next: usize,
     pub have: usize,
@@ -26,7 +34,7 @@ pub fn none() -> Line
     Line {
         start: 0,
         end: 0,
-        mode: 0,
+        part: Part::Whole,
         over: false,
         next: 0,
         have: 0,
@@ -42,21 +50,20 @@ pub fn next_line<R: Read>(from: &mut R, buffer: &mut [u8], last: Line) -> io::Re
     let mut h = Held {
         start: last.next,
         have: last.have,
-        mode: 0,
+        part: Part::Whole,
     };
     // no place before this one holds a line end
     let mut seen = last.next;
     for _ in 0..u64::MAX {
-        let have = h.have;
-        let end = find(buffer, seen, have, 10);
-        if end < have {
+        let end = find(buffer, seen, h.have, b'\n');
+        if end < h.have {
             return Ok(Line {
                 start: h.start,
-                end: end,
-                mode: h.mode,
+                end,
+                part: h.part,
                 over: false,
                 next: end + 1,
-                have: have,
+                have: h.have,
             });
         }
         h = with_room(buffer, h);
@@ -67,14 +74,14 @@ pub fn next_line<R: Read>(from: &mut R, buffer: &mut [u8], last: Line) -> io::Re
         }
         h.have = seen + got;
     }
-    Ok(rest(nothing(0)))
+    Ok(rest(nothing(Part::Whole)))
 }
 
 // Reads the input up to its end, or until the buffer is full, and answers how many bytes came.
 pub fn read_whole<R: Read>(from: &mut R, buffer: &mut [u8]) -> io::Result<usize>
     ensures { IfOk result (λ n. n ≤ length buffer.new) }
 {
-    let mut have: usize = 0;
+    let mut have = 0;
     while have < buffer.len() {
         let got = from.read(&mut buffer[have..])?;
         if got == 0 {
@@ -86,11 +93,11 @@ pub fn read_whole<R: Read>(from: &mut R, buffer: &mut [u8]) -> io::Result<usize>
 }
 
 // The bytes of a line that has not ended yet, from `start` up to `have`.
-#[derive(Drop)]
+#[derive(Clone, Copy)]
 struct Held {
     start: usize,
     have: usize,
-    mode: u8,
+    part: Part,
 }
 
 // The last line: all that is held.
@@ -100,7 +107,7 @@ fn rest(h: Held) -> Line
     Line {
         start: h.start,
         end: h.have,
-        mode: h.mode,
+        part: h.part,
         over: true,
         next: h.have,
         have: h.have,
@@ -108,13 +115,13 @@ fn rest(h: Held) -> Line
 }
 
 // Nothing held.
-fn nothing(mode: u8) -> Held
+fn nothing(part: Part) -> Held
     ensures { (result.start ≡ 0) × (result.have ≡ 0) }
 {
     Held {
         start: 0,
         have: 0,
-        mode: mode,
+        part,
     }
 }
 
@@ -123,28 +130,23 @@ fn with_room(buffer: &mut [u8], h: Held) -> Held
     requires { (0 < length buffer.old) × (h.start ≤ h.have) × (h.have ≤ length buffer.old) }
     ensures { (result.start ≤ result.have) × (result.have < length buffer.new) }
 {
-    let start = h.start;
-    let have = h.have;
-    let mode = h.mode;
-    if start == have {
-        return nothing(mode);
+    if h.start == h.have {
+        return nothing(h.part);
     }
-    if have < buffer.len() {
+    if h.have < buffer.len() {
         return h;
     }
-    if 0 < start {
-        text::shift(buffer, start, have);
+    if 0 < h.start {
+        text::shift(buffer, h.start, h.have);
         return Held {
             start: 0,
-            have: have - start,
-            mode: mode,
+            have: h.have - h.start,
+            part: h.part,
         };
     }
-    if mode != 0 {
-        return nothing(mode);
-    }
-    if buffer[0] == 35 {
-        return nothing(2);
-    }
-    nothing(1)
+    nothing(match h.part {
+        Part::Whole if buffer[0] == b'#' => Part::TooLongComment,
+        Part::Whole => Part::TooLong,
+        part => part,
+    })
 }

@@ -1,29 +1,24 @@
 // A set-up read from numbers: how many transports, 13 numbers for each, how many destinations, the home of each.
-ghost use Rattle.std.specs.Prelude.{◌≤◌, ◌≡◌, length};
+ghost use Rattle.std.specs.Prelude.{◌≤◌, ◌≡◌, length, IfSome};
 ghost use Rattle.lines.specs.Setups.{count_place, settings_in, homes_behind, setup_from};
 
 use crate::text::word;
 use rules::{Feedback, Settings, Setup};
 use startup::zero_settings;
 
-// The place of a set-up's number of destinations; 0 where the numbers are not as many as it announces.
-pub fn count_place(words: &[u64]) -> usize
-    ensures { (result ≡ count_place words.now) × (result ≤ length words.now) }
+// The place of a set-up's number of destinations; none where the numbers are not as many as it announces.
+pub fn count_place(words: &[u64]) -> Option<usize>
+    ensures place { result ≡ count_place words.now }
+    ensures within { IfSome result (λ p. p ≤ length words.now) }
 {
-    let k = words.len();
     let t = word(words, 0);
     // 13 numbers each
-    if (k as u64) / 13 < t {
-        return 0;
+    if (words.len() as u64) / 13 < t {
+        return None;
     }
     let at = 1 + 13 * (t as usize);
-    if k <= at {
-        return 0;
-    }
-    if word(words, at) != (k - at - 1) as u64 {
-        return 0;
-    }
-    at
+    let d = *words.get(at)?;
+    (d == (words.len() - at - 1) as u64).then_some(at)
 }
 
 // The set-up of these numbers, where that is the place of its number of destinations.
@@ -32,16 +27,16 @@ pub fn setup_of(words: &[u64], at: usize) -> Setup
     ensures { result ≡ setup_from words.now at }
 {
     let t = word(words, 0);
-    let a = settings(words, t, 0);
-    let b = settings(words, t, 1);
-    let c = settings(words, t, 2);
-    let e = settings(words, t, 3);
-    let home = homes(words, at);
     Setup {
         transports: t,
-        settings: [a, b, c, e],
+        settings: [
+            settings(words, t, 0),
+            settings(words, t, 1),
+            settings(words, t, 2),
+            settings(words, t, 3),
+        ],
         destinations: word(words, at),
-        home: home,
+        home: homes(words, at),
     }
 }
 
@@ -49,18 +44,10 @@ pub fn setup_of(words: &[u64], at: usize) -> Setup
 fn settings(words: &[u64], t: u64, i: u32) -> Settings
     ensures { result ≡ settings_in words.now t i }
 {
-    if t <= (i as u64) {
+    if t <= u64::from(i) {
         return zero_settings();
     }
     let at = 1 + 13 * (i as usize);
-    let positive = Feedback {
-        percent: word(words, at + 7),
-        form: word(words, at + 8),
-    };
-    let negative = Feedback {
-        percent: word(words, at + 9),
-        form: word(words, at + 10),
-    };
     Settings {
         agents: word(words, at),
         cost: word(words, at + 1),
@@ -69,8 +56,14 @@ fn settings(words: &[u64], t: u64, i: u32) -> Settings
         minimum: word(words, at + 4),
         limit: word(words, at + 5),
         initial: word(words, at + 6),
-        positive: positive,
-        negative: negative,
+        positive: Feedback {
+            percent: word(words, at + 7),
+            form: word(words, at + 8),
+        },
+        negative: Feedback {
+            percent: word(words, at + 9),
+            form: word(words, at + 10),
+        },
         cohortlimit: word(words, at + 11),
         suspension: word(words, at + 12),
     }
@@ -81,11 +74,9 @@ fn homes(words: &[u64], at: usize) -> [u64; 32]
     requires { at ≤ length words.now }
     ensures { result ≡ homes_behind words.now at }
 {
-    let mut home = [0u64; 32];
-    let mut j: usize = 0;
-    while j < 32 {
+    let mut home = [0; 32];
+    for j in 0..32 {
         home[j] = word(words, at + 1 + j);
-        j += 1;
     }
     home
 }

@@ -100,11 +100,6 @@ left_done p l n left s fits =
           once = λ x b t. times_take x l 0 n fits ∙ omega (arith, s.rest x b, one_false (none x b), one_true t);
         }
 
-pub once_tested : (p : ℕ → Bool) (l : List ℕ) (n count : ℕ) (left : List Bool) (r : Bool) → r ≡ any_to (λ x. get_or left x false) 32 → Left p l n left → n ≡ count → count ≤ 32
-    → count ≤ length l → not r ≡ leb count 32 && holds_each_once p 32 (take count l)
-once_tested p l n count left r e s q few fits =
-    rw (le-leb count 32 few, e, ← q) (left_done p l n left s (omega arith))
-
 -- after n of the first count places of l, whose last value of f is `last`
 pub record Rising (f : ℕ → ℕ) (clock : ℕ) (l : List ℕ) (count last n : ℕ) : Type 0 where
   pub rises : never_falling f (take n l) ≡ true
@@ -153,9 +148,6 @@ module _ (f : ℕ → ℕ) (clock : ℕ) (l : List ℕ) (count : ℕ) where
               (every_at (λ j. leb (f j) clock) (take count l) h (at l n)
               (rw (get_or-take count l n 0 inside) at (holds_get_or (take count l) n 0 (rw (length-take-le count l fits) inside)))),
         ))
-
-  pub rising_done : (last n : ℕ) → Rising f clock l count last n → n ≡ count → never_falling f (take count l) && every_in (λ j. leb (f j) clock) (take count l) ≡ true
-  rising_done last n s e = rw (← e) (and_both s.rises s.past)
 
 pub place_below : (l : List ℕ) (count : ℕ) → count ≤ length l → ((x : ℕ) → holds x (take count l) ≡ true → x < 32) → (i : ℕ) → i < count → at l i < 32
 place_below l count fits h i b =

@@ -1,16 +1,16 @@
 -- Moving x directly before y in one pass: x is left out, and put where y is met. The same as `move_before` where y is met once.
-use Prim.Native.Nat.{ℕ, suc, ◌+◌, ◌-◌, ◌≤◌, ◌<◌}
-use mathlib.Core.Bool.{true, false, not}
+use Prim.Native.Nat.{ℕ, ◌+◌, ◌≤◌, ◌<◌}
+use mathlib.Core.Bool.{false, not}
 use mathlib.Core.Path.{◌≡◌, refl, sym, ap, ◌∙◌}
 use mathlib.Core.Logic.{◌≢◌}
 use mathlib.Core.List.{List, [], ◌∷◌, ◌++◌, append_assoc, append-nil}
 use native.Mathlib.Numerals.{add-one}
 use native.Mathlib.Omega.{arith}
 use lib.Dec.{eqb}
-use lib.ListN.{length, get_or, take, drop, set, length-append, length-take, take-append-drop}
-use lib.Seq.{take-suc, take-take, length-take-le}
+use lib.ListN.{length, get_or, take, drop, set, length-append, take-append-drop}
+use lib.Seq.{take-suc}
 use borrow.Author.Tests.{eqb-true, eq-eqb, ne_eqb}
-use Rattle.laws.specs.Bools.{when◌then◌else◌, one}
+use Rattle.laws.specs.Bools.{when◌then◌else◌}
 use Rattle.laws.specs.Sequence.{keep, holds, times_in, insert_before, move_before, padded}
 use Rattle.laws.proofs.Bools.{case_bool, false_of}
 use Rattle.laws.proofs.Sequence.{times_tail_le, times_head_once, lacks_head, lacks_tail, holds_of_times}
@@ -77,17 +77,12 @@ module _ (x y : ℕ) where
     moved_more_other ne nf = moved_more ∙ rw (moved_other (get_or l i 0) ne nf)
 
   -- a part of the pass writes no more than the list has
-  pub moved_room : (l : List ℕ) (n i : ℕ) → x ≢ y → times_in x (take n l) ≡ 1 → times_in y (take n l) ≡ 1 → i ≤ n → n ≤ length l
-      → length (moved x y (take i l)) ≤ n
-  moved_room l n i ne hx hy h k =
-      let whole = take n l in
-      let e : length (moved x y whole) ≡ n =
-      ap length (moved_is whole (omega arith)) ∙ length_move x y whole ne hx (holds_of_times y whole (omega arith)) ∙ length-take-le n l k in
-      let s : moved x y whole ≡ moved x y (take i whole) ++ moved x y (drop i whole) =
-      ap (moved x y) (sym (take-append-drop i whole)) ∙ moved_append (take i whole) (drop i whole) in
-      let t : take i whole ≡ take i l = take-take i n l h in
-      let u : moved x y whole ≡ moved x y (take i l) ++ moved x y (drop i whole) = rw t at s in
-      omega (arith, ap length u, length-append (moved x y (take i l)) (moved x y (drop i whole)))
+  pub moved_room : (l : List ℕ) (i : ℕ) → x ≢ y → times_in x l ≡ 1 → times_in y l ≡ 1 → length (moved x y (take i l)) ≤ length l
+  moved_room l i ne hx hy =
+      let e : length (moved x y l) ≡ length l = ap length (moved_is l (omega arith)) ∙ length_move x y l ne hx (holds_of_times y l (omega arith)) in
+      let s : moved x y l ≡ moved x y (take i l) ++ moved x y (drop i l) =
+      ap (moved x y) (sym (take-append-drop i l)) ∙ moved_append (take i l) (drop i l) in
+      omega (arith, ap length s, length-append (moved x y (take i l)) (moved x y (drop i l)))
 
 -- before the element at i is written: what stands there already, with room for it
 pub record Ready (x y : ℕ) (l : List ℕ) (i : ℕ) (a : List ℕ) (m : ℕ) : Type 0 where
@@ -98,21 +93,20 @@ pub record Ready (x y : ℕ) (l : List ℕ) (i : ℕ) (a : List ℕ) (m : ℕ) :
   pub next : moved x y (take (i + 1) l) ≡ built ++ (get_or l i 0 ∷ [])
 
 module _
-    (x y n : ℕ)
+    (x y : ℕ)
     (l : List ℕ)
     (ne : x ≢ y)
-    (once : (times_in x (take n l) ≡ 1) × (times_in y (take n l) ≡ 1))
-    (fits : n ≤ 32)
-    (long : length l ≡ 32)
+    (once : (times_in x l ≡ 1) × (times_in y l ≡ 1))
+    (fits : length l ≤ 32)
     (i : ℕ)
-    (h : i < n)
+    (h : i < length l)
     (a : List ℕ)
     (m : ℕ)
     (e : a ≡ padded 32 (moved x y (take i l)))
     (f : m ≡ length (moved x y (take i l)))
     (z : get_or l i 0 ≢ x) where
   room_next : length (moved x y (take (i + 1) l)) ≤ 32
-  room_next = omega (arith, moved_room x y l n (i + 1) ne once.0 once.1 (omega arith) (omega arith))
+  room_next = omega (arith, moved_room x y l (i + 1) ne once.0 once.1)
 
   -- where y is met, two are written
   pub room_here : get_or l i 0 ≡ y → m + 1 < 32

@@ -12,27 +12,21 @@ pub fn append(q: JobList, j: u8) -> JobList
     requires { q.count < 32 }
     ensures { result ≡ listed (list_of q ++ (j ∷ [])) }
 {
+    let n = usize::from(q.count);
     let mut jobs = [0u8; 32];
-    let n = q.count as usize;
-    let mut i: usize = 0;
-    while i < n {
-        jobs[i] = q.jobs[i];
-        i += 1;
-    }
+    jobs[..n].copy_from_slice(q.numbers());
     jobs[n] = j;
     JobList {
-        jobs: jobs,
+        jobs,
         count: q.count + 1,
     }
 }
 
 // Whether the table says so of this job.
 fn marked(table: &[bool; 32], j: u8) -> bool
-    requires { length table.now ≡ 32 }
     ensures { result ≡ get_or table.now j false }
 {
-    let i = j as usize;
-    if i < 32 { table[i] } else { false }
+    table.get(usize::from(j)).copied().unwrap_or(false)
 }
 
 // Those that the table marks, in their order. The table's length is in its type, which a caller's proof knows of its own array.
@@ -41,19 +35,15 @@ pub fn keep(q: JobList, stays: &[bool; 32]) -> JobList
     ensures { result ≡ listed (keep (λ j. get_or stays.now j false) (list_of q)) }
 {
     let mut jobs = [0u8; 32];
-    let n = q.count as usize;
     let mut m: usize = 0;
-    let mut i: usize = 0;
-    while i < n {
-        let j = q.jobs[i];
+    for &j in q.numbers() {
         if marked(stays, j) {
             jobs[m] = j;
             m += 1;
         }
-        i += 1;
     }
     JobList {
-        jobs: jobs,
+        jobs,
         count: m as u8,
     }
 }
@@ -66,11 +56,8 @@ pub fn move_before(q: JobList, x: u8, y: u8) -> JobList
     ensures { result ≡ listed (move_before x y (list_of q)) }
 {
     let mut jobs = [0u8; 32];
-    let n = q.count as usize;
     let mut m: usize = 0;
-    let mut i: usize = 0;
-    while i < n {
-        let z = q.jobs[i];
+    for &z in q.numbers() {
         if z != x {
             if z == y {
                 jobs[m] = x;
@@ -79,10 +66,9 @@ pub fn move_before(q: JobList, x: u8, y: u8) -> JobList
             jobs[m] = z;
             m += 1;
         }
-        i += 1;
     }
     JobList {
-        jobs: jobs,
+        jobs,
         count: q.count,
     }
 }

@@ -6,7 +6,7 @@ ghost use Rattle.rules.specs.Calls.{job_reply, pick_reply, report_reply, ask_rep
 ghost use Rattle.layout.specs.Layout.{row_length, word, call_of};
 ghost use Rattle.making.specs.Making.{Made, Lent, Answered};
 
-use layout::rows::{put_ask, put_board, put_job, put_pick, put_report};
+use layout::rows::{put_job, put_number, put_pick, put_report};
 use rules::{Outcome, State};
 
 // Each of these makes a call of one kind with its numbers, writes its answer, and hands on the state that it left.
@@ -18,8 +18,7 @@ fn make_job(s: State, words: &[u64], row: &mut [u64], list: &mut [u16]) -> State
 {
     let end = 5 + (words[4] as usize);
     let taken = taking::take_job(s, words[1], words[2], &words[5..end], list);
-    let a = taken.answer;
-    put_job(row, a);
+    put_job(row, taken.answer);
     taken.state
 }
 
@@ -28,8 +27,7 @@ fn make_pick(s: State, now: u64, row: &mut [u64]) -> State
     ensures { Made (pick_reply s now) result row.new [] }
 {
     let picked = picking::pick(s, now);
-    let a = picked.answer;
-    put_pick(row, a);
+    put_pick(row, picked.answer);
     picked.state
 }
 
@@ -45,8 +43,7 @@ fn make_report(
         result row.new list.new }
 {
     let reported = reporting::report(s, words[1], words[2], words[3], outcome, list);
-    let a = reported.answer;
-    put_report(row, a);
+    put_report(row, reported.answer);
     reported.state
 }
 
@@ -54,16 +51,18 @@ fn make_ask(s: State, job: u64, row: &mut [u64])
     requires { length row.old ≡ row_length }
     ensures { Made (ask_reply s job) s row.new [] }
 {
-    let a = asking::ask(s, job);
-    put_ask(row, a);
+    // by `map`, what the closure gives is not found by the proof
+    match asking::ask(s, job) {
+        Ok(sum) => put_number(row, Ok(sum as u64)),
+        Err(refusal) => put_number(row, Err(refusal)),
+    }
 }
 
 fn make_board(s: State, row: &mut [u64], text: &mut [u8])
     requires { length row.old ≡ row_length }
     ensures { Made (board_reply s text.old) s row.new text.new }
 {
-    let a = asking::board(s, text);
-    put_board(row, a);
+    put_number(row, asking::board(s, text));
 }
 
 // Makes the call at the front of these numbers.
@@ -71,23 +70,18 @@ pub fn make(s: State, words: &[u64], row: &mut [u64], list: &mut [u16], text: &m
     requires { Lent words.now row.old list.old text.old }
     ensures { Answered s (call_of words.now list.old text.old) result row.new list.new text.new }
 {
-    let kind = words[0];
-    if kind == 1 {
-        return make_job(s, words, row, list);
+    match words[0] {
+        1 => make_job(s, words, row, list),
+        2 => make_pick(s, words[1], row),
+        3 => make_report(s, words, Outcome::Success, row, list),
+        4 => make_report(s, words, Outcome::Failure, row, list),
+        5 => {
+            make_ask(s, words[1], row);
+            s
+        }
+        _ => {
+            make_board(s, row, text);
+            s
+        }
     }
-    if kind == 2 {
-        return make_pick(s, words[1], row);
-    }
-    if kind == 3 {
-        return make_report(s, words, Outcome::Success, row, list);
-    }
-    if kind == 4 {
-        return make_report(s, words, Outcome::Failure, row, list);
-    }
-    if kind == 5 {
-        make_ask(s, words[1], row);
-        return s;
-    }
-    make_board(s, row, text);
-    s
 }

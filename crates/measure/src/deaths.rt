@@ -1,6 +1,6 @@
 // What is measured: a report that kills its destination, and so puts off what waits for it.
 use crate::loads;
-use rules::{Outcome, ReportAnswer, State};
+use rules::{Outcome, Refusal, ReportAnswer, State};
 
 // A state in which a failure of this entry kills its destination.
 #[derive(Drop)]
@@ -10,40 +10,30 @@ struct Brink {
     ticket: u64,
 }
 
-// How many entries a report put off.
-fn put_off(a: ReportAnswer) -> u16 {
-    match a {
-        ReportAnswer::Refused(_) => 0,
-        ReportAnswer::Reported { putoff, .. } => putoff,
-    }
+// Whether a report put entries off.
+fn puts_off(a: Result<ReportAnswer, Refusal>) -> bool {
+    matches!(a, Ok(r) if 0 < r.putoff)
 }
 
 // Failures of one entry after another, up to the first that would put anything off.
 fn before_a_death() -> Brink {
     let out = loads::all_out();
-    let entries = out.entries;
-    let first = out.state;
-    let mut s = first;
-    let mut list = [0u16; 512];
-    let mut k: usize = 0;
-    while k < 64 {
-        let entry = entries[k];
+    let mut state = out.state;
+    let mut list = [0; 512];
+    for (k, &entry) in out.entries.iter().enumerate() {
         let ticket = 64 + k as u64;
-        let r = scheduler::report(s, 0, entry, ticket, Outcome::Failure, &mut list);
-        let a = r.answer;
-        if 0 < put_off(a) {
+        let r = scheduler::report(state, 0, entry, ticket, Outcome::Failure, &mut list);
+        if puts_off(r.answer) {
             return Brink {
-                state: s,
-                entry: entry,
-                ticket: ticket,
+                state,
+                entry,
+                ticket,
             };
         }
-        let after = r.state;
-        s = after;
-        k += 1;
+        state = r.state;
     }
     Brink {
-        state: s,
+        state,
         entry: 0,
         ticket: 0,
     }
@@ -52,17 +42,11 @@ fn before_a_death() -> Brink {
 // That failure, each time from the same state.
 pub fn death(rounds: u32) -> u32 {
     let b = before_a_death();
-    let s = b.state;
-    let mut list = [0u16; 512];
-    let mut good: u32 = 0;
-    let mut left = rounds;
-    while 0 < left {
-        left -= 1;
-        let r = scheduler::report(s, 0, b.entry, b.ticket, Outcome::Failure, &mut list);
-        let a = r.answer;
-        if 0 < put_off(a) {
-            good = loads::more(good);
-        }
+    let mut list = [0; 512];
+    let mut good = 0;
+    for _ in 0..rounds {
+        let r = scheduler::report(b.state, 0, b.entry, b.ticket, Outcome::Failure, &mut list);
+        good = loads::count(good, puts_off(r.answer));
     }
     good
 }

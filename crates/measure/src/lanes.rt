@@ -6,39 +6,31 @@ use rules::{Setup, State};
 
 // Eight entries for each destination.
 fn to_each() -> [u64; 256] {
-    let mut dests = [0u64; 256];
-    let mut i: usize = 0;
-    while i < 256 {
-        dests[i] = (i % 32) as u64;
-        i += 1;
+    let mut dests = [0; 256];
+    for (i, d) in dests.iter_mut().enumerate() {
+        *d = (i % 32) as u64;
     }
     dests
 }
 
 // One transport, on which a slot is so dear that nobody preempts, and a job of 256 entries.
 fn one_large() -> State {
-    let g = scene::settings(100, 0, 0, 0);
     let u = Setup {
         transports: 1,
-        settings: [g; 4],
+        settings: [scene::settings(100, 0, 0, 0); 4],
         destinations: 32,
-        home: [0u64; 32],
+        home: [0; 32],
     };
-    let fresh = scheduler::set_up(u);
-    let dests = to_each();
-    let mut list = [0u16; 256];
-    let r = scheduler::take_job(fresh.state, 0, 0, &dests, &mut list);
-    r.state
+    let mut list = [0; 256];
+    scheduler::take_job(scheduler::set_up(u).state, 0, 0, &to_each(), &mut list).state
 }
 
 // A job of 2 entries.
 fn with_small(s: State, now: u64, i: u64) -> State
     requires { i ≤ 31 }
 {
-    let dests = [i, 31 - i];
-    let mut list = [0u16; 32];
-    let r = scheduler::take_job(s, now, 0, &dests, &mut list);
-    r.state
+    let mut list = [0; 32];
+    scheduler::take_job(s, now, 0, &[i, 31 - i], &mut list).state
 }
 
 // When the i-th job comes: they come a minute apart, or all at once.
@@ -52,13 +44,10 @@ fn second(apart: bool, i: u64) -> u64
 // job that preempts it.
 fn queued(apart: bool) -> State {
     let mut s = one_large();
-    let mut i: u64 = 1;
-    while i < 32 {
+    for i in 1..32 {
         s = with_small(s, second(apart, i), i);
-        i += 1;
     }
-    let r = scheduler::pick(s, second(apart, 31));
-    r.state
+    scheduler::pick(s, second(apart, 31)).state
 }
 
 // Picks from that state, where they came a minute apart, and where they came all at once.

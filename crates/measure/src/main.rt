@@ -13,7 +13,7 @@ use std::env::Env;
 use std::io;
 
 fn main(rt: HostRuntime) -> io::Result<()> {
-    let mut space = [0u8; 16];
+    let mut space = [0; 16];
     let n = first_argument(&rt, &mut space);
     if n == 0 {
         show_scene(&rt)?;
@@ -35,46 +35,25 @@ fn main(rt: HostRuntime) -> io::Result<()> {
 fn first_argument<E: Env>(rt: &E, space: &mut [u8]) -> usize
     ensures { result ≤ length space.new }
 {
-    match rt.arg(1, space) {
-        Ok(n) => n,
-        Err(_) => 0,
-    }
+    rt.arg(1, space).unwrap_or(0)
 }
 
 // 100,000 calls of a name; of any other name none.
 fn measure<P: Print>(rt: &P, name: &[u8]) -> io::Result<()> {
-    let rounds: u32 = 100_000;
-    if name == b"sound".as_slice() {
-        say(rt, "sound", loads::sound(rounds))?;
+    let rounds = 100_000;
+    match name {
+        b"sound" => say(rt, "sound", loads::sound(rounds)),
+        b"pick" => say(rt, "pick", loads::pick(rounds / 4)),
+        b"lane" => say(rt, "lane", lanes::lane(rounds / 4)),
+        b"crowd" => say(rt, "crowd", lanes::crowd(rounds / 4)),
+        b"report" => say(rt, "report", loads::report(rounds / 4)),
+        b"death" => say(rt, "death", deaths::death(rounds)),
+        b"turn" => say(rt, "turn", loads::turn(rounds)),
+        b"job" => say(rt, "job", loads::job(rounds)),
+        b"ask" => say(rt, "ask", loads::ask(rounds)),
+        b"board" => say(rt, "board", loads::board(rounds)),
+        _ => Ok(()),
     }
-    if name == b"pick".as_slice() {
-        say(rt, "pick", loads::pick(rounds / 4))?;
-    }
-    if name == b"lane".as_slice() {
-        say(rt, "lane", lanes::lane(rounds / 4))?;
-    }
-    if name == b"crowd".as_slice() {
-        say(rt, "crowd", lanes::crowd(rounds / 4))?;
-    }
-    if name == b"report".as_slice() {
-        say(rt, "report", loads::report(rounds / 4))?;
-    }
-    if name == b"death".as_slice() {
-        say(rt, "death", deaths::death(rounds))?;
-    }
-    if name == b"turn".as_slice() {
-        say(rt, "turn", loads::turn(rounds))?;
-    }
-    if name == b"job".as_slice() {
-        say(rt, "job", loads::job(rounds))?;
-    }
-    if name == b"ask".as_slice() {
-        say(rt, "ask", loads::ask(rounds))?;
-    }
-    if name == b"board".as_slice() {
-        say(rt, "board", loads::board(rounds))?;
-    }
-    Ok(())
 }
 
 // A word and a number.
@@ -84,7 +63,7 @@ fn say<P: Print>(rt: &P, word: &str, n: u32) -> io::Result<()> {
 
 // The board of the scene: windows of 4, of which half are full.
 fn show_scene<P: Print>(rt: &P) -> io::Result<()> {
-    let mut text = [0u8; 1024];
+    let mut text = [0; 1024];
     let n = loads::scene_text(&mut text);
     rt.write_all(&text[..n])
 }

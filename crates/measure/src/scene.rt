@@ -26,33 +26,27 @@ pub fn settings(cost: u64, loan: u64, discount: u64, minimum: u64) -> Settings {
 
 // Eight destinations a transport.
 fn homes() -> [u64; 32] {
-    let mut home = [0u64; 32];
-    let mut d: usize = 0;
-    while d < 32 {
-        home[d] = (d / 8) as u64;
-        d += 1;
+    let mut home = [0; 32];
+    for (d, t) in home.iter_mut().enumerate() {
+        *t = (d / 8) as u64;
     }
     home
 }
 
 // Sixteen entries, four for each of the transport's first four destinations.
 fn to_first_four(t: u8) -> [u64; 16] {
-    let mut dests = [0u64; 16];
-    let mut i: usize = 0;
-    while i < 16 {
-        dests[i] = 8 * (t as u64) + (i % 4) as u64;
-        i += 1;
+    let mut dests = [0; 16];
+    for (i, d) in dests.iter_mut().enumerate() {
+        *d = 8 * u64::from(t) + (i % 4) as u64;
     }
     dests
 }
 
 // Entries that go in turn to one of the transport's first four destinations and to one of its last four.
 fn to_all(t: u8) -> [u64; 25] {
-    let mut dests = [0u64; 25];
-    let mut i: usize = 0;
-    while i < 25 {
-        dests[i] = 8 * (t as u64) + (4 * (i % 2) + i / 2 % 4) as u64;
-        i += 1;
+    let mut dests = [0; 25];
+    for (i, d) in dests.iter_mut().enumerate() {
+        *d = 8 * u64::from(t) + (4 * (i % 2) + i / 2 % 4) as u64;
     }
     dests
 }
@@ -61,39 +55,25 @@ fn to_all(t: u8) -> [u64; 25] {
 fn with_job(s: State, t: u8, n: usize) -> State
     requires { n ≤ 25 }
 {
-    let dests = to_all(t);
-    let mut list = [0u16; 32];
-    let r = scheduler::take_job(s, 0, t as u64, &dests[..n], &mut list);
-    r.state
+    let mut list = [0; 32];
+    scheduler::take_job(s, 0, u64::from(t), &to_all(t)[..n], &mut list).state
 }
 
 // On each transport a job whose 16 entries are all busy, and so fill the windows of four destinations.
 fn half_full() -> State {
-    let g = settings(5, 3, 50, 3);
     let u = Setup {
         transports: 4,
-        settings: [g; 4],
+        settings: [settings(5, 3, 50, 3); 4],
         destinations: 32,
         home: homes(),
     };
-    let fresh = scheduler::set_up(u);
-    let first = fresh.state;
-    let mut s = first;
-    let mut list = [0u16; 32];
-    let mut t: u8 = 0;
-    while t < 4 {
-        let dests = to_first_four(t);
-        let r = scheduler::take_job(s, 0, t as u64, &dests, &mut list);
-        let after = r.state;
-        s = after;
-        t += 1;
+    let mut s = scheduler::set_up(u).state;
+    let mut list = [0; 32];
+    for t in 0..4 {
+        s = scheduler::take_job(s, 0, u64::from(t), &to_first_four(t), &mut list).state;
     }
-    let mut left: u8 = 64;
-    while 0 < left {
-        left -= 1;
-        let r = scheduler::pick(s, 0);
-        let after = r.state;
-        s = after;
+    for _ in 0..64 {
+        s = scheduler::pick(s, 0).state;
     }
     s
 }
@@ -108,10 +88,8 @@ fn size(i: u8) -> usize
 // That, and behind it on each transport four jobs of 25 entries and two of 4. There is room for four jobs more.
 pub fn with_room() -> State {
     let mut s = half_full();
-    let mut i: u8 = 0;
-    while i < 24 {
+    for i in 0..24 {
         s = with_job(s, i % 4, size(i));
-        i += 1;
     }
     s
 }
@@ -119,10 +97,8 @@ pub fn with_room() -> State {
 // With these four, of 4 entries each: 32 jobs and 512 entries.
 pub fn whole() -> State {
     let mut s = with_room();
-    let mut t: u8 = 0;
-    while t < 4 {
+    for t in 0..4 {
         s = with_job(s, t, 4);
-        t += 1;
     }
     s
 }

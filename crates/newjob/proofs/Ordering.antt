@@ -1,5 +1,5 @@
 -- The order of a new job's destinations, those that first appear, and its row in the columns of the jobs.
-use Prim.Native.Nat.{ℕ, zero, suc, ◌+◌, ◌*◌, ◌≤◌, ◌<◌}
+use Prim.Native.Nat.{ℕ, ◌+◌, ◌*◌, ◌≤◌, ◌<◌}
 use mathlib.Core.Bool.{Bool, true, false}
 use mathlib.Core.Path.{◌≡◌, refl, sym, ap, ◌∙◌}
 use mathlib.Core.List.{List, [], ◌∷◌, ◌++◌}
@@ -9,7 +9,7 @@ use native.Mathlib.Omega.{arith}
 use lib.ListN.{length, get_or, set, length-set, replicate, get_or-replicate}
 use lib.Seq.{paste, take_all, get_or-set_same, get_or-set_other}
 use Rattle.laws.specs.Sequence.{padded, holds, firsts_to}
-use Rattle.laws.proofs.Sequence.{holds_append_right, holds_head, holds_append_other, length_padded, get_or_padded}
+use Rattle.laws.proofs.Sequence.{holds_append_right, holds_head, holds_append_other, length_padded}
 use Rattle.laws.proofs.Firsts.{firsts_seen, firsts_new, firsts_length}
 use Rattle.laws.proofs.Front.{length_snoc}
 use Rattle.laws.proofs.Building.{put_at}
@@ -78,16 +78,9 @@ module _ {kept : List ℕ} {seen : List Bool} {places : List ℕ} {m i : ℕ} (r
 
 -- The order as the rules say it.
 
-module _ (l m : List ℕ) (same : (i : ℕ) → at l i ≡ at m i) where
-  firsts_same : (n : ℕ) → firsts_to l n ≡ firsts_to m n
-  unfolding firsts_to
-  firsts_same zero = refl
-  firsts_same (suc n) = rw (firsts_same n, same n)
-
--- of the places that are written with zeros behind them
-firsts_padded : (size : ℕ) (kept l : List ℕ) (n : ℕ) → kept ≡ padded size l → n ≡ length l → firsts_to kept n ≡ new_order l
+order_few : (kept : List ℕ) → ((i : ℕ) → i < length kept → at kept i < 32) → length (new_order kept) ≤ 32
 unfolding new_order
-firsts_padded size kept l n e f = rw (e, f) (firsts_same (padded size l) l (get_or_padded size l) (length l))
+order_few kept small = firsts_length kept (length kept) 32 small
 
 order_is : (column : List ℕ) (j : ℕ) (places order : List ℕ) → places ≡ padded 32 order → length order ≤ 32 → paste column (32 * j) places 32 ≡ with_order column j order
 unfolding with_order
@@ -95,18 +88,13 @@ order_is column j places order e few =
     let k : length (padded 32 order) ≡ 32 = length_padded 32 order few in
     rw (e, take_all 32 (padded 32 order) (omega (arith, k)))
 
--- what `firsts` gave of the first n destinations
-module _ (kept : List ℕ) (n : ℕ) (small : (i : ℕ) → i < n → at kept i < 32) (places : List ℕ) (e : places ≡ padded 32 (firsts_to kept n)) where
-  pub order_length : length places ≡ 32
-  order_length = ap length e ∙ length_padded 32 (firsts_to kept n) (firsts_length kept n 32 small)
-
-  -- the row is that of a job with the destinations l
-  pub row_is : (g : Jobs) (j t clock count : ℕ) (order : List ℕ) → count ≡ length (firsts_to kept n) → order ≡ paste g.order (32 * j) places 32
-      → (l : List ℕ) → kept ≡ padded 256 l → n ≡ length l
+-- what `firsts` gave: the row is that of a job with these destinations
+module _ (kept : List ℕ) (small : (i : ℕ) → i < length kept → at kept i < 32) (places : List ℕ) (e : places ≡ padded 32 (new_order kept)) where
+  pub row_is : (g : Jobs) (j t clock count : ℕ) (order : List ℕ) → count ≡ length (new_order kept) → order ≡ paste g.order (32 * j) places 32
       → record {
         present = set g.present j true;
         transport = set g.transport j t;
-        n = set g.n j n;
+        n = set g.n j (length kept);
         picked = set g.picked j 0;
         dropped = set g.dropped j 0;
         sold = set g.sold j 0;
@@ -117,10 +105,7 @@ module _ (kept : List ℕ) (n : ℕ) (small : (i : ℕ) → i < n → at kept i 
         turn = set g.turn j 0;
         places = set g.places j count;
         order = order;
-      } ≡ new_jobs g j t clock l
-  row_is g j t clock count order many wrote l p m =
-      let first : firsts_to kept n ≡ new_order l = firsts_padded 256 kept l n p m in
-      let f : length (new_order l) ≤ 32 = rw first at (firsts_length kept n 32 small) in
-      let c : count ≡ length (new_order l) = many ∙ ap length first in
-      let o : order ≡ with_order g.order j (new_order l) = wrote ∙ order_is g.order j places (new_order l) (e ∙ ap (padded 32) first) f in
-      rw (m, c, o) refl
+      } ≡ new_jobs g j t clock kept
+  row_is g j t clock count order many wrote =
+      let o : order ≡ with_order g.order j (new_order kept) = wrote ∙ order_is g.order j places (new_order kept) e (order_few kept small) in
+      rw (many, o) refl

@@ -1,16 +1,15 @@
 // What a new job is made of: its destinations parted, the places of its entries and their columns, its order, and its place in the lists.
 #![tactic(auto)]
 
-ghost use Rattle.std.specs.Prelude.{◌≡◌, List, [], ◌∷◌, ◌++◌, ℕ, ◌*◌, ◌≤◌, ◌<◌, length};
+ghost use Rattle.std.specs.Prelude.{◌≡◌, [], ◌∷◌, ◌++◌, ℕ, ◌*◌, ◌≤◌, ◌<◌, length};
 ghost use Rattle.std.proofs.Math.Seq.{paste};
 ghost use Rattle.laws.specs.Range.{count_to, chosen_to};
-ghost use Rattle.laws.specs.Sequence.{padded, firsts_to};
+ghost use Rattle.laws.specs.Sequence.{padded};
 ghost use Rattle.rules.specs.State.{at, list_of, listed};
-ghost use Rattle.rules.specs.Taking.{filled, new_jobs};
+ghost use Rattle.rules.specs.Taking.{filled, new_order, new_jobs};
 ghost use Rattle.admission.specs.Admission.{free_in};
 ghost use Rattle.newjob.specs.NewJob.{Parted};
 
-use columns::{index16, wide};
 use rules::{JobList, Jobs};
 
 // The destinations of those that wait, in job order with zeros behind; how many they are, and how many are put off.
@@ -37,21 +36,17 @@ pub fn split(dests: &[u64], dead: &[bool; 32], list: &mut [u16]) -> Parts
     let mut kept = [0u8; 256];
     let mut n: usize = 0;
     let mut m: usize = 0;
-    let mut i: usize = 0;
-    while i < dests.len() {
-        let d = dests[i];
-        let k = d as usize;
-        if dead[k] {
+    for (i, &d) in dests.iter().enumerate() {
+        if dead[d as usize] {
             list[m] = i as u16;
             m += 1;
         } else {
             kept[n] = d as u8;
             n += 1;
         }
-        i += 1;
     }
     Parts {
-        kept: kept,
+        kept,
         n: n as u16,
         putoff: m as u16,
     }
@@ -64,92 +59,70 @@ pub fn free_places(kind: &[u8; 512], n: usize) -> [u16; 256]
 {
     let mut places = [0u16; 256];
     let mut m: usize = 0;
-    let mut e: usize = 0;
-    while m < n {
-        if kind[e] == 0 {
+    for (e, &k) in kind.iter().enumerate() {
+        if m == n {
+            break;
+        }
+        if k == 0 {
             places[m] = e as u16;
             m += 1;
         }
-        e += 1;
     }
     places
 }
 
-// One value at each of the first n places.
-pub fn fill_same(column: &mut [u8; 512], places: &[u16; 256], n: usize, v: u8)
-    requires { (n ≤ 256) × ((i : ℕ) → i < n → at places.now i < 512) }
-    ensures { column.new ≡ filled places.now (λ i. v) n column.old }
+// Each value at its place.
+pub fn fill(column: &mut [u8; 512], places: &[u16], values: &[u8])
+    requires places { (i : ℕ) → i < length places.now → at places.now i < 512 }
+    requires lengths { length values.now ≡ length places.now }
+    ensures { column.new ≡ filled places.now (at values.now) (length places.now) column.old }
 {
-    let mut i: usize = 0;
-    while i < n {
-        let e = index16(places[i]);
-        column[e] = v;
-        i += 1;
+    for (&e, &v) in places.iter().zip(values) {
+        column[usize::from(e)] = v;
     }
 }
 
-// The first n values, each at its place.
-pub fn fill_from(column: &mut [u8; 512], places: &[u16; 256], n: usize, values: &[u8; 256])
-    requires { (n ≤ 256) × ((i : ℕ) → i < n → at places.now i < 512) }
-    ensures { column.new ≡ filled places.now (at values.now) n column.old }
-{
-    let mut i: usize = 0;
-    while i < n {
-        let e = index16(places[i]);
-        column[e] = values[i];
-        i += 1;
-    }
-}
-
-// The first n destinations, each where it first appears. They are below 32, so a table says which were seen.
-pub fn firsts(kept: &[u8; 256], n: usize) -> Order
-    requires { (n ≤ 256) × ((i : ℕ) → i < n → at kept.now i < 32) }
-    ensures { (result.places ≡ padded 32 (firsts_to kept.now n)) × (result.count ≡ length (firsts_to kept.now n)) }
+// The destinations, each where it first appears. They are below 32, so a table says which were seen.
+pub fn firsts(kept: &[u8]) -> Order
+    requires { (i : ℕ) → i < length kept.now → at kept.now i < 32 }
+    ensures { (result.places ≡ padded 32 (new_order kept.now)) × (result.count ≡ length (new_order kept.now)) }
 {
     let mut seen = [false; 32];
     let mut places = [0u8; 32];
     let mut m: usize = 0;
-    let mut i: usize = 0;
-    while i < n {
-        let d = kept[i];
-        let k = wide(d);
-        if !seen[k] {
-            seen[k] = true;
+    for &d in kept {
+        if !seen[d as usize] {
+            seen[d as usize] = true;
             places[m] = d;
             m += 1;
         }
-        i += 1;
     }
     Order {
-        places: places,
+        places,
         count: m as u8,
     }
 }
 
 // A job's places in the column of orders, written anew.
 pub fn set_order(column: &mut [u8; 1024], j: u8, order: &[u8; 32])
-    requires { (j < 32) × (length column.old ≡ 1024) × (length order.now ≡ 32) }
+    requires { j < 32 }
     ensures { column.new ≡ paste column.old (32 * j) order.now 32 }
 {
-    let base = 32 * (j as usize);
-    let mut i: usize = 0;
-    while i < 32 {
-        column[base + i] = order[i];
-        i += 1;
-    }
+    let start = 32 * (j as usize);
+    column[start..start + 32].copy_from_slice(order);
 }
 
-// The columns of the jobs with the row of a new one, number j, with n entries for the first n of these destinations.
-pub fn new_row(g: Jobs, j: u8, t: u8, n: u16, kept: &[u8; 256], clock: u32) -> Jobs
-    requires { (j < 32) × (length g.order ≡ 1024) × (n ≤ 256) × ((i : ℕ) → i < n → at kept.now i < 32) }
-    ensures { (l : List ℕ) → kept.now ≡ padded 256 l → n ≡ length l → result ≡ new_jobs g j t clock l }
+// The columns of the jobs with the row of a new one, number j, with an entry for each of these destinations.
+pub fn new_row(g: Jobs, j: u8, t: u8, kept: &[u8], clock: u32) -> Jobs
+    requires { (j < 32) × (length kept.now ≤ 256) × ((i : ℕ) → i < length kept.now → at kept.now i < 32) }
+    ensures { result ≡ new_jobs g j t clock kept.now }
 {
-    let order = firsts(kept, n as usize);
+    let order = firsts(kept);
     let k = j as usize;
     let mut next = g;
     next.present[k] = true;
     next.transport[k] = t;
-    next.n[k] = n;
+    next.n[k] = kept.len() as u16;
     next.picked[k] = 0;
     next.dropped[k] = 0;
     next.sold[k] = 0;

@@ -1,3 +1,2 @@
-pub mod WriteLaws
 pub mod PickLaws
 pub mod PickReplies

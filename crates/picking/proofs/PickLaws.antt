@@ -1,12 +1,14 @@
 -- A pick put together: what was chosen may be handed out, and what is handed out is what the rules pick.
-use Rattle.std.proofs.Common.{◌≡◌, ℕ, suc, ◌+◌, ◌*◌, ◌<◌, ◌≤◌, true, false, eqb, [], ◌∷◌, sym, refl, ap, ◌∙◌, subst, le_trans, lt_of_lt_of_le, mul-le-mul_right, arith, w32, Fits, eq-eqb}
+use Rattle.std.specs.Option.{unwrap_or}
+use Rattle.std.proofs.Common.{Some, None, ◌≡◌, ℕ, suc, ◌+◌, ◌*◌, ◌<◌, ◌≤◌, true, eqb, [], ◌∷◌, sym, refl, ap, ◌∙◌, subst, le_trans, lt_of_lt_of_le, mul-le-mul_right, arith, w32, Fits, eq-eqb}
 use Rattle.laws.specs.Bools.{when◌then◌else◌}
-use Rattle.laws.proofs.Bools.{true_not_false, case_bool, and_both}
+use Rattle.laws.proofs.Bools.{case_bool, and_both}
 use Rattle.laws.proofs.Chain.{link_cases}
 use Rattle.laws.proofs.Count.{count_le_bound}
 use Rattle.charging.proofs.Leads.{leads_inside_lem}
 use Rattle.choice.specs.declared.Choice.{Choice}
-use Rattle.preemption.specs.Preempting.{waiting_at}
+use Rattle.preemption.specs.declared.Preemptor.{Preemptor}
+use Rattle.preemption.specs.Preempting.{preemptor_at}
 use Rattle.choice.specs.Choosing.{picked_from, chosen_on, choice_of}
 use Rattle.rules.specs.declared.State.{State}
 use Rattle.rules.specs.Sizes.{max_entries, last_second}
@@ -95,21 +97,21 @@ may_preempt w now t y x shaped whole lane cur p =
 
 -- what was chosen, where something was found
 
-module _ (w : State) (now : ℕ) (c : Choice) (e : c ≡ choice_of w now) where
-  pub nothing_found : c.found ≡ false → record { says = granted (0 ∷ []); state = w; buffer = [] } ≡ after_pick w now
-  unfolding after_pick choice_of when◌then◌else◌
-  nothing_found f = case_bool (finds w) (λ t. true_not_false (sym (found_is t)) f) (λ n. rw n refl)
-    where
-      found_is : finds w ≡ true → true ≡ c.found
-      found_is t = sym (ap (λ c. c.found) e ∙ rw t refl)
+pub nothing_found : (w : State) (now : ℕ) → None ≡ choice_of w now → record { says = granted (0 ∷ []); state = w; buffer = [] } ≡ after_pick w now
+unfolding after_pick choice_of when◌then◌else◌
+nothing_found w now e = case_bool (finds w) (λ t. let q = rw t at e in absurd cc) (λ n. rw n refl)
 
-  some_found : c.found ≡ true → finds w ≡ true
-  unfolding choice_of when◌then◌else◌
-  some_found f = case_bool (finds w) (λ t. t) (λ n. true_not_false f (ap (λ c. c.found) e ∙ rw n refl))
+some_same : {A : Type 0} (a b : A) → Some a ≡ Some b → a ≡ b
+some_same a b e = ap (λ o. unwrap_or o a) e
 
-  chosen_is : c.found ≡ true → c ≡ chosen_on w now (next_transport w) (current_job w (next_transport w))
+module _ (w : State) (now : ℕ) (c : Choice) (e : Some c ≡ choice_of w now) where
+  some_found : finds w ≡ true
   unfolding choice_of when◌then◌else◌
-  chosen_is f = e ∙ rw (some_found f) refl
+  some_found = case_bool (finds w) (λ t. t) (λ n. let q = rw n at e in absurd cc)
+
+  chosen_is : c ≡ chosen_on w now (next_transport w) (current_job w (next_transport w))
+  unfolding choice_of when◌then◌else◌
+  chosen_is = some_same _ _ (rw some_found at e)
 
 -- From the current job.
 
@@ -132,7 +134,7 @@ module _ (w : State) (now t y x : ℕ) (f : finds w ≡ true) (et : t ≡ next_t
 
 -- What the code asks and gives, by what was chosen.
 
-module _ (w : State) (now : ℕ) (c : Choice) (e : c ≡ choice_of w now) (shaped : Shaped w) (whole : Sound w) (f : c.found ≡ true) where
+module _ (w : State) (now : ℕ) (c : Choice) (e : Some c ≡ choice_of w now) (shaped : Shaped w) (whole : Sound w) where
   abbrev t : ℕ
   t = next_transport w
 
@@ -140,7 +142,7 @@ module _ (w : State) (now : ℕ) (c : Choice) (e : c ≡ choice_of w now) (shape
   y = current_job w (next_transport w)
 
   lane : TransportFound w t
-  lane = transport_found w (some_found w now c e f)
+  lane = transport_found w (some_found w now c e)
 
   cur : Current w t y
   cur = current_found w t shaped whole lane
@@ -155,26 +157,31 @@ module _ (w : State) (now : ℕ) (c : Choice) (e : c ≡ choice_of w now) (shape
       } ≡ after_pick w now)
 
   plain_chosen : preemptor_of w now t y ≡ 0 → Handed (chosen_on w now t y) w
-  unfolding picked_from
+  unfolding picked_from preemptor_at
   plain_chosen z =
       rw z (
         may_hand_out w t y (next_place w y) (next_entry w y) shaped whole lane.below cur.present
             (next_can w t y shaped whole cur.present cur.transport cur.eligible),
-        plain_reply w now t y (some_found w now c e f) refl refl z,
+        plain_reply w now t y (some_found w now c e) refl refl z,
       )
 
-  pub pick_plain : c.preemptor ≡ 0 → Handed c w
-  pick_plain z =
-      let q = chosen_is w now c e f in
-      subst (λ c. Handed c w) (sym q) (plain_chosen (sym (ap (λ c. c.preemptor) q) ∙ z))
+  -- who preempts, by the link that the rules give
+  none_is : c.preemptor ≡ None → preemptor_of w now t y ≡ 0
+  unfolding preemptor_at
+  none_is h =
+      let z : preemptor_at w (preemptor_of w now t y) ≡ None = sym (ap (λ c. c.preemptor) (chosen_is w now c e)) ∙ h in
+      link_cases (λ k. preemptor_of w now t y ≡ k → preemptor_of w now t y ≡ 0) (preemptor_of w now t y) (λ n. n) (λ x r n. let q = rw n at z in absurd cc) refl
 
-  abbrev Moved : Choice → Type 0
-  Moved c =
-      MayPreempt w c.transport c.job c.current c.waiting
-      × Handed c (preempting w c.transport c.job c.current c.waiting)
+  pub pick_plain : c.preemptor ≡ None → Handed c w
+  pick_plain h = subst (λ c. Handed c w) (sym (chosen_is w now c e)) (plain_chosen (none_is h))
 
-  moved_chosen : (x : ℕ) → preemptor_of w now t y ≡ suc x → Moved (chosen_on w now t y)
-  unfolding picked_from waiting_at
+  abbrev Moved : Choice → Preemptor → Type 0
+  Moved c p =
+      MayPreempt w c.transport p.job c.current p.waiting
+      × Handed c (preempting w c.transport p.job c.current p.waiting)
+
+  moved_chosen : (x : ℕ) → preemptor_of w now t y ≡ suc x → Moved (chosen_on w now t y) (record { job = x; waiting = waiting_of w x })
+  unfolding picked_from preemptor_at
   moved_chosen x z =
       let p = preemptor_found w now t y x shaped whole lane.below cur z in
       let kept = kept_preempting w now t y x shaped whole lane.below cur p in
@@ -189,16 +196,21 @@ module _ (w : State) (now : ℕ) (c : Choice) (e : c ≡ choice_of w now) (shape
         may_preempt w now t y x shaped whole lane.below cur p,
         (
           may_hand_out m t x (next_place w x) (next_entry w x) kept.0 kept.1 (unfold preempting in lane.below) there can,
-          moved_reply w now t y x (some_found w now c e f) refl refl z,
+          moved_reply w now t y x (some_found w now c e) refl refl z,
         ),
       )
 
-  pub pick_moved : (c.preemptor ≡ 0 → ⊥) → Moved c
-  pick_moved h =
-      let q = chosen_is w now c e f in
-      let z : c.preemptor ≡ preemptor_of w now t y = ap (λ c. c.preemptor) q in
-      subst Moved (sym q)
-      (link_cases (λ k. preemptor_of w now t y ≡ k → Moved (chosen_on w now t y)) (preemptor_of w now t y) (λ n. absurd (h (z ∙ n))) (λ x r n. moved_chosen x n) refl)
+  pub pick_moved : (p : Preemptor) → c.preemptor ≡ Some p → Moved c p
+  unfolding preemptor_at
+  pick_moved p h =
+      let q = chosen_is w now c e in
+      let z : preemptor_at w (preemptor_of w now t y) ≡ Some p = sym (ap (λ c. c.preemptor) q) ∙ h in
+      link_cases (λ k. preemptor_of w now t y ≡ k → Moved c p) (preemptor_of w now t y)
+      (λ n. let r = rw n at z in absurd cc)
+      (λ x r n.
+      let own = some_same (record { job = x; waiting = waiting_of w x }) p (rw n at z) in
+      subst (Moved c) own (subst (λ c. Moved c (record { job = x; waiting = waiting_of w x })) (sym q) (moved_chosen x n)))
+      refl
 
 -- The same of the state w that the code has woken.
 
@@ -212,27 +224,26 @@ module _ (s : State) (now : ℕ) (r : Ready s now) (w : State) (p : w ≡ woken 
   after_is : after_pick w now ≡ after_pick (woken s now) now
   after_is = ap (λ w. after_pick w now) p
 
-  module _ (c : Choice) (e : c ≡ choice_of w now) where
-    pub gives_nothing : c.found ≡ false → record { says = granted (0 ∷ []); state = w; buffer = [] } ≡ after_pick (woken s now) now
-    gives_nothing f = nothing_found w now c e f ∙ after_is
+  pub gives_nothing : None ≡ choice_of w now → record { says = granted (0 ∷ []); state = w; buffer = [] } ≡ after_pick (woken s now) now
+  gives_nothing e = nothing_found w now e ∙ after_is
 
-    module _ (f : c.found ≡ true) where
-      pub may_hand_plain : c.preemptor ≡ 0 → MayHandOut w c.transport c.job c.place c.entry
-      may_hand_plain z = (pick_plain w now c e own_shape own_sound f z).0
+  module _ (c : Choice) (e : Some c ≡ choice_of w now) where
+    pub may_hand_plain : c.preemptor ≡ None → MayHandOut w c.transport c.job c.place c.entry
+    may_hand_plain z = (pick_plain w now c e own_shape own_sound z).0
 
-      pub gives_plain : (out : State) → c.preemptor ≡ 0 → out ≡ handed_out w c.transport c.job c.place c.entry
-          → record { says = granted (c.job ∷ c.entry ∷ w.ticket ∷ c.passed ∷ []); state = out; buffer = [] } ≡ after_pick (woken s now) now
-      gives_plain out z q = rw q ((pick_plain w now c e own_shape own_sound f z).1 ∙ after_is)
+    pub gives_plain : (out : State) → c.preemptor ≡ None → out ≡ handed_out w c.transport c.job c.place c.entry
+        → record { says = granted (c.job ∷ c.entry ∷ w.ticket ∷ c.passed ∷ []); state = out; buffer = [] } ≡ after_pick (woken s now) now
+    gives_plain out z q = rw q ((pick_plain w now c e own_shape own_sound z).1 ∙ after_is)
 
-      pub may_move : (c.preemptor ≡ 0 → ⊥) → MayPreempt w c.transport c.job c.current c.waiting
-      may_move h = (pick_moved w now c e own_shape own_sound f h).0
+    module _ (who : Preemptor) (h : c.preemptor ≡ Some who) where
+      pub may_move : MayPreempt w c.transport who.job c.current who.waiting
+      may_move = (pick_moved w now c e own_shape own_sound who h).0
 
-      pub may_hand_moved : (m : State) → (c.preemptor ≡ 0 → ⊥) → m ≡ preempting w c.transport c.job c.current c.waiting
-          → MayHandOut m c.transport c.job c.place c.entry
-      may_hand_moved m h q = rw q (pick_moved w now c e own_shape own_sound f h).1.0
+      pub may_hand_moved : (m : State) → m ≡ preempting w c.transport who.job c.current who.waiting → MayHandOut m c.transport c.job c.place c.entry
+      may_hand_moved m q = rw q (pick_moved w now c e own_shape own_sound who h).1.0
 
-      pub gives_moved : (m out : State) → (c.preemptor ≡ 0 → ⊥) → m ≡ preempting w c.transport c.job c.current c.waiting
+      pub gives_moved : (m out : State) → m ≡ preempting w c.transport who.job c.current who.waiting
           → out ≡ handed_out m c.transport c.job c.place c.entry
           → record { says = granted (c.job ∷ c.entry ∷ w.ticket ∷ c.passed ∷ []); state = out; buffer = [] } ≡ after_pick (woken s now) now
-      gives_moved m out h q z =
-          rw (z ∙ ap (λ m. handed_out m c.transport c.job c.place c.entry) q) ((pick_moved w now c e own_shape own_sound f h).1.1 ∙ after_is)
+      gives_moved m out q z =
+          rw (z ∙ ap (λ m. handed_out m c.transport c.job c.place c.entry) q) ((pick_moved w now c e own_shape own_sound who h).1.1 ∙ after_is)

@@ -3,84 +3,106 @@
 
 ghost use Rattle.std.specs.Prelude.{◌≡◌, ◌+◌, ◌%◌};
 ghost use Rattle.rules.specs.Sizes.{tickets};
+ghost use Rattle.rules.specs.Preemption.{preempting};
+ghost use Rattle.rules.specs.Pick.{handed_out};
 ghost use Rattle.rules.specs.Calls.{pick_reply};
 ghost use Rattle.rules.specs.Gave.{pick_gave, FindsExactly};
+ghost use Rattle.rules.proofs.Shape.{Shaped};
+ghost use Rattle.picking.specs.May.{MayPreempt, MayHandOut};
 
-use rules::{PickAnswer, PickReply, State};
+use choice::Choice;
+use preemption::Preemptor;
+use rules::{HandedBack, PickAnswer, Refusal, State};
+
+// The next entry, with its ticket and the number of jobs passed over; nothing where no entry is eligible.
+pub fn pick(s: State, now: u64) -> HandedBack<Option<PickAnswer>>
+    ensures reply { pick_gave result ≡ pick_reply s now }
+    ensures found { FindsExactly s now result.answer }
+{
+    let mut state = s;
+    let answer = pick_from(&mut state, now);
+    HandedBack { answer, state }
+}
+
+// The same of a state in its place: a refusal leaves it as it came. That its arrays are as long as their types say, the caller knows, who has it by value.
+fn pick_from(state: &mut State, now: u64) -> Result<Option<PickAnswer>, Refusal>
+    requires { Shaped state.old }
+    ensures { pick_gave (record { answer = result; state = state.new }) ≡ pick_reply state.old now }
+{
+    let mut pairs = [0; 1024];
+    if !soundness::sound_with(*state, &mut pairs) {
+        return Err(Refusal::Unsound);
+    }
+    if waking::bad_clock(state.clock, now) {
+        return Err(Refusal::Clock);
+    }
+    state.clock = now as u32;
+    state.destinations = waking::wake(
+        state.destinations,
+        &state.setup.home,
+        state.setup.settings,
+        state.setup.destinations,
+        now,
+    );
+    let Some(c) = choice::choose(*state, now, &pairs) else {
+        return Ok(None);
+    };
+    if let Some(p) = c.preemptor {
+        preempt(state, c.transport, c.current, p);
+    }
+    let ticket = hand_out(state, c);
+    Ok(Some(PickAnswer {
+        job: c.job,
+        entry: c.entry,
+        ticket,
+        passed: c.passed,
+    }))
+}
+
+// The job that preempts moves directly before the current one, which pays for it.
+fn preempt(state: &mut State, transport: u8, current: u8, p: Preemptor)
+    requires { MayPreempt state.old transport p.job current p.waiting }
+    ensures { state.new ≡ preempting state.old transport p.job current p.waiting }
+{
+    let lane = transport as usize;
+    let job = p.job as usize;
+    state.queues[lane] = lists::move_before(state.queues[lane], p.job, current);
+    charging::charge_from(
+        &state.jobs.parent,
+        &mut state.jobs.overtakers,
+        current,
+        p.waiting,
+    );
+    state.jobs.sold[current as usize] += p.waiting;
+    state.jobs.parent[job] = current + 1;
+    state.jobs.preempted[job] = true;
+}
+
+// The entry is handed out, with a ticket.
+fn hand_out(state: &mut State, c: Choice) -> u32
+    requires { MayHandOut state.old c.transport c.job c.place c.entry }
+    ensures state { state.new ≡ handed_out state.old c.transport c.job c.place c.entry }
+    ensures ticket { result ≡ state.old.ticket }
+{
+    let lane = c.transport as usize;
+    let job = c.job as usize;
+    let entry = c.entry as usize;
+    let d = state.entries.destination[entry] as usize;
+    let ticket = state.ticket;
+    state.entries.kind[entry] = 2;
+    state.entries.ticket[entry] = ticket;
+    state.jobs.picked[job] += 1;
+    state.jobs.turn[job] = c.place + 1;
+    state.busy.transport[lane] += 1;
+    state.busy.destination[d] += 1;
+    state.ticket = next_ticket(ticket);
+    state.turn = c.transport + 1;
+    ticket
+}
 
 // The ticket after t: it rolls from 4,294,967,295 back to 0.
 fn next_ticket(t: u32) -> u32
     ensures { result ≡ (t + 1) % tickets }
 {
-    std::num::wrapping_add_u32(t, 1)
-}
-
-// The next entry, with its ticket and the number of jobs passed over; nothing where no entry is eligible.
-pub fn pick(s: State, now: u64) -> PickReply
-    ensures reply { pick_gave result ≡ pick_reply s now }
-    ensures found { FindsExactly s now result.answer }
-{
-    let mut next = s;
-    let mut pairs = [0u16; 1024];
-    if !soundness::sound_with(next, &mut pairs) {
-        return PickReply {
-            answer: PickAnswer::Refused(1),
-            state: s,
-        };
-    }
-    if waking::bad_clock(s.clock, now) {
-        return PickReply {
-            answer: PickAnswer::Refused(3),
-            state: s,
-        };
-    }
-    next.clock = now as u32;
-    let old = s.destinations;
-    let settings = s.setup.settings;
-    let ds = waking::wake(old, &next.setup.home, settings, s.setup.destinations, now);
-    next.destinations = ds;
-    let c = choice::choose(next, now, &pairs);
-    if !c.found {
-        return PickReply {
-            answer: PickAnswer::Nothing,
-            state: next,
-        };
-    }
-    let lane = c.transport as usize;
-    let job = c.job as usize;
-
-    // the job that preempts moves directly before the current one, which pays for it
-    if c.preemptor != 0 {
-        let payer = c.current as usize;
-        let q = next.queues[lane];
-        let queue = lists::move_before(q, c.job, c.current);
-        next.queues[lane] = queue;
-        let parent = next.jobs.parent;
-        charging::charge_from(&parent, &mut next.jobs.overtakers, c.current, c.waiting);
-        columns::add(&mut next.jobs.sold, payer, c.waiting);
-        columns::put(&mut next.jobs.parent, job, c.current + 1);
-        columns::mark(&mut next.jobs.preempted, job);
-    }
-
-    // the entry is handed out, with a ticket
-    let entry = c.entry as usize;
-    let d = columns::read(&next.entries.destination, entry) as usize;
-    let ticket = next.ticket;
-    columns::put_kind(&mut next.entries.kind, entry, 2);
-    columns::put_ticket(&mut next.entries.ticket, entry, ticket);
-    columns::add(&mut next.jobs.picked, job, 1);
-    columns::put(&mut next.jobs.turn, job, c.place + 1);
-    columns::one_more(&mut next.busy.transport, lane);
-    columns::add(&mut next.busy.destination, d, 1);
-    next.ticket = next_ticket(ticket);
-    next.turn = c.transport + 1;
-    PickReply {
-        answer: PickAnswer::Picked {
-            job: c.job,
-            entry: c.entry,
-            ticket: s.ticket,
-            passed: c.passed,
-        },
-        state: next,
-    }
+    t.wrapping_add(1)
 }

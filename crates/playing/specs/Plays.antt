@@ -1,17 +1,16 @@
 -- Request A1: what a replay prints of a call, and the call of a record as the reader tells it.
-use Rattle.std.specs.Prelude.{ℕ, List, [], ◌∷◌, ◌++◌, take, eqb}
+use Rattle.std.specs.Prelude.{ℕ, List, [], ◌∷◌, ◌++◌, take, Result, Ok, Err, eqb}
 use Rattle.laws.specs.Bools.{when◌then◌else◌}
-use Rattle.rules.specs.declared.JobAnswer.{JobAnswer}
-use Rattle.rules.specs.declared.PickAnswer.{PickAnswer}
+use Rattle.rules.specs.declared.Refusal.{Refusal}
 use Rattle.rules.specs.declared.ReportAnswer.{ReportAnswer}
 use Rattle.rules.specs.State.{at}
 use Rattle.rules.specs.Windows.{move_number}
+use Rattle.rules.specs.Answers.{refusal_number}
 use Rattle.rules.specs.Board.{decimal, line_end}
 use Rattle.rules.specs.Calls.{Reply, Call, ask, board}
 use Rattle.rules.specs.Calls.{job as job_call, pick as pick_call, report as report_call}
 use Rattle.lines.specs.Texts.{move_word}
 use Rattle.journal.specs.declared.Record.{Record}
-use Rattle.journal.specs.declared.Record.TheVariants
 use Rattle.journal.specs.Replays.{lent}
 
 -- a number alone on its line
@@ -44,16 +43,11 @@ call_told (Record.Report clock e ticket outcome) dests = report_call clock e tic
 
 -- what each answer prints
 
-unfoldable pub job_line : JobAnswer → List ℕ
-job_line (JobAnswer.Refused k) = number_line k
-job_line (JobAnswer.Taken j putoff) = []
-job_line (JobAnswer.PutOff putoff) = []
+-- of a job and of a pick
+unfoldable pub refusal_line : {A : Type 0} → Result A Refusal → List ℕ
+refusal_line (Err k) = number_line (refusal_number k)
+refusal_line (Ok a) = []
 
-unfoldable pub pick_line : PickAnswer → List ℕ
-pick_line (PickAnswer.Refused k) = number_line k
-pick_line (PickAnswer.Picked j e ticket passed) = []
-pick_line PickAnswer.Nothing = []
-
-unfoldable pub report_line : ReportAnswer → List ℕ
-report_line (ReportAnswer.Refused k) = number_line k
-report_line (ReportAnswer.Reported putoff m) = move_word (move_number m) ++ line_end
+unfoldable pub report_line : Result ReportAnswer Refusal → List ℕ
+report_line (Err k) = number_line (refusal_number k)
+report_line (Ok a) = move_word (move_number a.moved) ++ line_end

@@ -11,23 +11,21 @@ ghost use Rattle.journal.specs.Replays.{lent};
 ghost use Rattle.playing.specs.Plays.{printed, call_told};
 
 use journal::Record;
+use lines::answer::Reply;
 use lines::text::at_most;
 use rules::{Outcome, State};
 
-// The state that a record left, and the next place of the buffer.
-#[derive(Drop)]
-pub struct Played {
-    pub state: State,
-    pub length: usize,
-}
-
-// Plays a record, with a job's destinations beside it. What it prints goes to a place of `out`, as far as there is room.
-pub fn play(s: State, what: Record, dests: &[u64], out: &mut [u8], at: usize) -> Played
+// Plays a record, with a job's destinations beside it. What it prints goes to a place of `out`, as far as there is room. The answer is the
+// state that the record left, and the next place of the buffer.
+pub fn play(s: State, what: Record, dests: &[u64], out: &mut [u8], at: usize) -> Reply
     ensures state { result.state ≡ state_from s (call_told what dests.now) }
     ensures text { Put (gathered printed s (call_told what dests.now)) out.old at out.new result.length }
 {
     match what {
-        Record::Name { .. } => left(s, at),
+        Record::Name { .. } => Reply {
+            state: s,
+            length: at,
+        },
         Record::Job {
             clock,
             transport,
@@ -43,15 +41,6 @@ pub fn play(s: State, what: Record, dests: &[u64], out: &mut [u8], at: usize) ->
     }
 }
 
-fn left(s: State, n: usize) -> Played
-    ensures { (result.state ≡ s) × (result.length ≡ n) }
-{
-    Played {
-        state: s,
-        length: n,
-    }
-}
-
 fn play_job(
     s: State,
     clock: u64,
@@ -60,26 +49,28 @@ fn play_job(
     dests: &[u64],
     out: &mut [u8],
     at: usize,
-) -> Played
+) -> Reply
     ensures state { result.state ≡ state_from s (job clock transport (take count dests.now) lent ∷ []) }
     ensures text { Put (gathered printed s (job clock transport (take count dests.now) lent ∷ [])) out.old at out.new result.length }
 {
     let mut list = [0u16; 512];
     let many = at_most(count, dests.len());
     let r = scheduler::take_job(s, clock, transport, &dests[..many], &mut list);
-    let a = r.answer;
-    let n = printing::put_job(out, at, a);
-    left(r.state, n)
+    Reply {
+        state: r.state,
+        length: printing::put_refusal(out, at, r.answer),
+    }
 }
 
-fn play_pick(s: State, clock: u64, out: &mut [u8], at: usize) -> Played
+fn play_pick(s: State, clock: u64, out: &mut [u8], at: usize) -> Reply
     ensures state { result.state ≡ state_from s (pick clock ∷ []) }
     ensures text { Put (gathered printed s (pick clock ∷ [])) out.old at out.new result.length }
 {
     let r = scheduler::pick(s, clock);
-    let a = r.answer;
-    let n = printing::put_pick(out, at, a);
-    left(r.state, n)
+    Reply {
+        state: r.state,
+        length: printing::put_refusal(out, at, r.answer),
+    }
 }
 
 fn play_report(
@@ -90,13 +81,14 @@ fn play_report(
     outcome: Outcome,
     out: &mut [u8],
     at: usize,
-) -> Played
+) -> Reply
     ensures state { result.state ≡ state_from s (report clock entry ticket outcome lent ∷ []) }
     ensures text { Put (gathered printed s (report clock entry ticket outcome lent ∷ [])) out.old at out.new result.length }
 {
     let mut list = [0u16; 512];
     let r = scheduler::report(s, clock, entry, ticket, outcome, &mut list);
-    let a = r.answer;
-    let n = printing::put_report(out, at, a);
-    left(r.state, n)
+    Reply {
+        state: r.state,
+        length: printing::put_report(out, at, r.answer),
+    }
 }

@@ -11,7 +11,6 @@ use mir.Syntax.{w64}
 use mir.Val.{Fits, SFits, to_z, of_z}
 use mir.Facts.{Fits-nat_abs, to_z-of_z}
 use mir.ValLaws.{to_z_pos}
-use Rattle.rules.specs.State.{at}
 use Rattle.rules.specs.Preemption.{has_credit, owned}
 
 small : (n : ℕ) → n ≤ 65536 → n < 2 ^ 63
@@ -29,14 +28,17 @@ diff_fits s (suc n) hs hp = go (ltb s (suc n))
     go true = record { sfits = small (suc n - suc s) (omega arith) }
     go false = record { sfits = small (s - suc n) (omega arith) }
 
-module _ (s p : ℕ) (hs : s ≤ 65536) (hp : p ≤ 65536) where
-  reads : to_z w64 s -ℤ to_z w64 p ≡ pos s -ℤ pos p
-  reads = ap₂ (λ a b. a -ℤ b) (to_z_pos w64 s (lt_of_le_of_lt hs (lit< tt))) (to_z_pos w64 p (lt_of_le_of_lt hp (lit< tt)))
+-- z reads as s
+module _ (s p : ℕ) (hs : s ≤ 65536) (hp : p ≤ 65536) (z : ℤ) (is : z ≡ pos s) where
+  reads : to_z w64 (of_z w64 z) -ℤ to_z w64 p ≡ pos s -ℤ pos p
+  reads =
+      let kept : to_z w64 (of_z w64 (pos s)) ≡ pos s = to_z-of_z {w = w64} (record { sfits = small s hs }) in
+      ap₂ (λ a b. a -ℤ b) (ap (λ a. to_z w64 (of_z w64 a)) is ∙ kept) (to_z_pos w64 p (lt_of_le_of_lt hp (lit< tt)))
 
-  pub credit_fits : SFits w64 (to_z w64 s -ℤ to_z w64 p)
-  credit_fits = subst (λ z. SFits w64 z) (sym reads) (diff_fits s p hs hp)
+  pub credit_fits : SFits w64 (to_z w64 (of_z w64 z) -ℤ to_z w64 p)
+  credit_fits = subst (λ a. SFits w64 a) (sym reads) (diff_fits s p hs hp)
 
-  pub credit_is : to_z w64 (of_z w64 (to_z w64 s -ℤ to_z w64 p)) ≡ pos s -ℤ pos p
+  pub credit_is : to_z w64 (of_z w64 (to_z w64 (of_z w64 z) -ℤ to_z w64 p)) ≡ pos s -ℤ pos p
   credit_is = to_z-of_z credit_fits ∙ reads
 
 -- a signed local z reads as the number a
@@ -71,10 +73,6 @@ worth_fits a c l ha hl =
       record { fits = small_fits (100 * (a / c + l)) (omega (arith, q)) },
     )
 
-pub link_suc : (k : ℕ) → (k ≡ 0 → ⊥) → k ≡ suc (k - 1)
-link_suc zero ne = absurd (ne refl)
-link_suc (suc x) ne = omega arith
-
 -- plain steps, so that a proof does not search its whole record for them
 
 pub positive : (k : ℕ) → (k ≡ 0 → ⊥) → 1 ≤ k
@@ -83,12 +81,3 @@ positive (suc x) ne = omega arith
 
 pub sum_fits : (m a : ℕ) → m < 65536 → a ≤ 65536 → Fits w64 (m + a)
 sum_fits m a l k = record { fits = small_fits (m + a) (omega arith) }
-
-pub less_by : (a b c : ℕ) → a ≡ b → a < c → b < c
-less_by a b c e l = subst (λ x. x < c) e l
-
-pub le_by : (a b c : ℕ) → a ≡ b → c ≤ a → c ≤ b
-le_by a b c e l = subst (λ x. c ≤ x) e l
-
-pub rest_small : (r p q w : ℕ) → r ≡ p - q → w ≡ p → w < 65536 → r ≤ 65536
-rest_small r p q w e f l = omega arith

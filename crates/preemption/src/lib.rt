@@ -8,19 +8,18 @@ ghost use Rattle.rules.specs.State.{at, settings_of};
 ghost use Rattle.rules.specs.Preemption.{credit, has_credit, owned, pays_for, preemptor_of};
 ghost use Rattle.eligibility.specs.Eligibility.{ready_in, Reads};
 ghost use Rattle.searching.specs.Searching.{Arrived};
-ghost use Rattle.preemption.specs.Preempting.{waiting_at};
+ghost use Rattle.preemption.specs.Preempting.{preemptor_at, preemptor_link};
 
-use columns::{wide, wide16};
+use eligibility::Tables;
 use rules::{JobList, Jobs, Settings};
 use searching::best_candidate;
 
 // "a = s - c·q, which may be negative"
-fn slot_credit(cost: u64, picked: u64, sold: u64) -> i64
-    requires { (cost * sold ≤ 65536) × (picked ≤ 65536) }
+fn slot_credit(cost: u64, picked: u16, sold: u16) -> i64
+    requires { cost * sold ≤ 65536 }
     ensures { result ≡ credit cost picked sold }
 {
-    let paid = cost * sold;
-    (picked as i64) - (paid as i64)
+    i64::from(picked) - (cost * u64::from(sold)) as i64
 }
 
 // "a ≥ 1"
@@ -46,73 +45,48 @@ fn pays_for(g: Settings, a: u64, m: u64) -> bool
     m * (100 - g.discount) <= 100 * (a / g.cost + g.loan)
 }
 
-// The job that preempts the current one, plus 1, and how many of its entries wait.
-#[derive(Drop)]
+// The job that preempts the current one, and how many of its entries wait.
+#[derive(Clone, Copy)]
 pub struct Preemptor {
-    pub link: u8,
+    pub job: u8,
     pub waiting: u16,
 }
 
 // "It is preempted when c is not 0, a ≥ 1, n ≥ M·c, a candidate exists, and for the best one .."
-pub fn find_preemptor<'a>(
-    jobs: Jobs,
-    arrivals: JobList,
+pub fn find_preemptor(
+    jobs: &Jobs,
+    arrivals: &JobList,
     g: Settings,
-    waits: &'a [u16; 256],
-    pairs: &'a [u16; 1024],
-    room: &'a [bool; 256],
+    tables: Tables,
     time: u64,
     t: u8,
     y: u8,
-) -> Preemptor
-    requires list { (time ≤ last_second) × (arrivals.count ≤ 32) × (length arrivals.jobs ≡ 32) × (Arrived jobs.arrival arrivals time) }
-    requires slots { (y < 32) × (g.cost ≤ 100) × (g.minimum ≤ 100) × (g.loan ≤ 100) × (g.discount ≤ 100) × (g.cost * at jobs.sold y ≤ 256) }
-    ensures link { result.link ≤ 32 }
-    ensures preempts { (s : State) → s.jobs ≡ jobs → s.arrivals ≡ arrivals → settings_of s t ≡ g
-        → Reads s waits.now (ready_in pairs.now room.now)
-        → (result.link ≡ preemptor_of s time t y) × (result.waiting ≡ waiting_at s result.link) }
+) -> Option<Preemptor>
+    requires list { (time ≤ last_second) × (arrivals.now.count ≤ 32) × (length arrivals.now.jobs ≡ 32) × (Arrived jobs.now.arrival arrivals.now time) }
+    requires slots { (y < 32) × (g.cost ≤ 100) × (g.minimum ≤ 100) × (g.loan ≤ 100) × (g.discount ≤ 100) × (g.cost * at jobs.now.sold y ≤ 256) }
+    ensures link { preemptor_link result ≤ 32 }
+    ensures preempts { (s : State) → s.jobs ≡ jobs.now → s.arrivals ≡ arrivals.now → settings_of s t ≡ g
+        → Reads s tables.entry.waits.now (ready_in tables.entry.pairs.now tables.entry.room.now)
+        → result ≡ preemptor_at s (preemptor_of s time t y) }
 {
-    let cost = g.cost;
-    if cost == 0 {
-        return Preemptor {
-            link: 0,
-            waiting: 0,
-        };
+    if g.cost == 0 {
+        return None;
     }
-    let at = wide(y);
-    let a = slot_credit(cost, wide16(jobs.picked[at]), wide16(jobs.sold[at]));
+    let current = usize::from(y);
+    let a = slot_credit(g.cost, jobs.picked[current], jobs.sold[current]);
     if !has_credit(a) {
-        return Preemptor {
-            link: 0,
-            waiting: 0,
-        };
+        return None;
     }
-    if wide16(jobs.n[at]) < g.minimum * cost {
-        return Preemptor {
-            link: 0,
-            waiting: 0,
-        };
+    if u64::from(jobs.n[current]) < g.minimum * g.cost {
+        return None;
     }
     let slots = owned_slots(a);
-    let most = (wide16(waits[at]) + slots) / cost;
-    let found = best_candidate(jobs, arrivals, waits, pairs, room, time, t, y, most);
-    let best = found.link;
-    if best == 0 {
-        return Preemptor {
-            link: 0,
-            waiting: 0,
-        };
+    let most = (u64::from(tables.waits[current]) + slots) / g.cost;
+    let found = best_candidate(jobs, arrivals, tables, time, t, y, most);
+    let job = found.job?;
+    let waiting = tables.waits[usize::from(job)];
+    if !pays_for(g, slots, u64::from(waiting)) {
+        return None;
     }
-    let k = wide(best - 1);
-    let m = waits[k];
-    if !pays_for(g, slots, wide16(m)) {
-        return Preemptor {
-            link: 0,
-            waiting: 0,
-        };
-    }
-    Preemptor {
-        link: best,
-        waiting: m,
-    }
+    Some(Preemptor { job, waiting })
 }

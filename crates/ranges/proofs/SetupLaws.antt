@@ -1,17 +1,20 @@
 -- The test of a set-up, as the code goes about it.
-use Prim.Native.Nat.{◌≤◌}
-use mathlib.Core.Bool.{Bool, true, false, not, ◌&&◌, ◌||◌}
-use mathlib.Core.Path.{◌≡◌, refl, sym, ◌∙◌}
-use lib.ListN.{get_or, set}
-use lib.Dec.{eqb, ltb}
-use borrow.Author.Tests.{not-true, not-false}
+use Prim.Native.Nat.{ℕ, zero, suc, ◌≤◌}
+use mathlib.Core.Bool.{Bool, true, false, ◌&&◌, ◌||◌}
+use mathlib.Core.List.{List}
+use mathlib.Core.Path.{◌≡◌, refl, sym, ap, ◌∙◌}
+use native.Mathlib.Omega.{arith}
+use lib.ListN.{length, get_or, take}
+use lib.Dec.{eqb}
+use native.Mathlib.Numerals.{unary_clauses}
+use Rattle.std.specs.List.{list_all}
+use Rattle.std.proofs.lemmas.List.Folds.{list_all_more}
 use Rattle.laws.specs.Range.{all_to}
 use Rattle.laws.proofs.Bools.{and_left, and_right}
 use Rattle.rules.specs.declared.Settings.{Settings}
 use Rattle.rules.specs.declared.Setup.{Setup}
 use Rattle.rules.specs.Sizes.{max_agents, max_window}
-use Rattle.rules.specs.State.{at, zero_settings}
-use Rattle.rules.specs.Setup.{within, feedback_in_range, slots_in_range, windows_in_range, settings_in_range, setup_in_range}
+use Rattle.rules.specs.Setup.{within, feedback_in_range, slots_in_range, windows_in_range}
 use Rattle.rules.proofs.RangeFacts.{within_facts}
 
 -- the tests of one transport, joined
@@ -27,18 +30,25 @@ module _ (g : Settings) {a b c d e : Bool} where
   unfolding windows_in_range
   windows_joined ea eb ec ed ee ef = rw (ea, eb, ec, ed, ee, ef) refl
 
-module _ (u : Setup) (a b : Bool) (ea : a ≡ within 1 4 u.transports) (eb : b ≡ within 1 32 u.destinations) where
-  pub setup_refused : not (a && b) ≡ true → false ≡ setup_in_range u
-  unfolding setup_in_range
-  setup_refused h = rw (← ea, ← eb, not-true (a && b) h)
+-- two tests, of which the second is made where the first passes
+pub tested_on : {a b x y v : Bool} → a ≡ x → a ≡ true → b ≡ y → v ≡ b → v ≡ x && y
+tested_on e t f g = rw (← e, t, ← f, g)
 
-  pub transports_fit : not (a && b) ≡ false → u.transports ≤ 4
-  transports_fit h = (within_facts (sym ea ∙ and_left a b (not-false (a && b) h))).1
+pub stopped : {a x v : Bool} (y : Bool) → a ≡ x → a ≡ false → v ≡ a → v ≡ x && y
+stopped y e f g = rw (← e, g, f)
 
-  pub destinations_fit : not (a && b) ≡ false → u.destinations ≤ 32
-  destinations_fit h = (within_facts (sym eb ∙ and_right a b (not-false (a && b) h))).1
+-- what is tested of the first n places
+module _ {A : Type 0} (p : A → Bool) (l : List A) (d : A) where
+  pub all_front : (n : ℕ) → n ≤ length l → list_all p (take n l) ≡ all_to (λ i. p (get_or l i d)) n
+  unfolding all_to
+  all_front zero h = refl
+  all_front (suc n) h =
+      let more = simp unary_clauses at (list_all_more p l n d (omega arith)) in
+      more ∙ ap (λ b. b && p (get_or l n d)) (all_front n (omega arith))
 
-  pub setup_tested : (x y : Bool) → not (a && b) ≡ false → x ≡ all_to (λ t. settings_in_range (get_or u.settings t zero_settings)) u.transports
-      → y ≡ all_to (λ d. ltb (at u.home d) u.transports) u.destinations → x && y ≡ setup_in_range u
-  unfolding setup_in_range
-  setup_tested x y h ex ey = rw (← ea, ← eb, not-false (a && b) h, ex, ey)
+module _ (u : Setup) {a : Bool} (sizes : a ≡ within 1 4 u.transports && within 1 32 u.destinations) (pass : a ≡ true) where
+  pub transports_fit : u.transports ≤ 4
+  transports_fit = (within_facts (and_left (within 1 4 u.transports) (within 1 32 u.destinations) (sym sizes ∙ pass))).1
+
+  pub destinations_fit : u.destinations ≤ 32
+  destinations_fit = (within_facts (and_right (within 1 4 u.transports) (within 1 32 u.destinations) (sym sizes ∙ pass))).1

@@ -1,9 +1,8 @@
 // Document 01, "Set-up ranges": the test of a set-up.
 #![tactic(auto)]
 
-ghost use Rattle.std.specs.Prelude.{◌≡◌, ◌≤◌, get_or, ltb};
-ghost use Rattle.laws.specs.Range.{all_to};
-ghost use Rattle.rules.specs.State.{at, zero_settings};
+ghost use Rattle.std.specs.Prelude.{◌≡◌, ltb};
+ghost use Rattle.std.specs.List.{list_all};
 ghost use Rattle.rules.specs.Setup.{within, feedback_in_range, slots_in_range, windows_in_range, settings_in_range, setup_in_range};
 
 use rules::{Feedback, Settings, Setup};
@@ -38,12 +37,10 @@ fn slots_in_range(g: Settings) -> bool
 fn windows_in_range(g: Settings) -> bool
     ensures { result ≡ windows_in_range g }
 {
-    let positive = g.positive;
-    let negative = g.negative;
     within(1, MAX_WINDOW, g.limit)
         & within(1, g.limit, g.initial)
-        & feedback_in_range(1, positive)
-        & feedback_in_range(0, negative)
+        & feedback_in_range(1, g.positive)
+        & feedback_in_range(0, g.negative)
         & within(1, 100, g.cohortlimit)
         & within(1, 86400, g.suspension)
 }
@@ -55,46 +52,26 @@ fn settings_in_range(g: Settings) -> bool
     slots_in_range(g) & windows_in_range(g)
 }
 
-// Whether the settings of the first n transports are.
-fn all_settings_in_range(settings: [Settings; 4], n: usize) -> bool
-    requires { n ≤ 4 }
-    ensures { result ≡ all_to (λ t. settings_in_range (get_or settings t zero_settings)) n }
+// Whether these transports' settings are.
+fn all_settings_in_range(settings: &[Settings]) -> bool
+    ensures { result ≡ list_all settings_in_range settings.now }
 {
-    let mut good = true;
-    let mut t: usize = 0;
-    while t < n {
-        let g = settings[t];
-        good = good & settings_in_range(g);
-        t += 1;
-    }
-    good
+    settings.iter().all(|&g| settings_in_range(g))
 }
 
-// Whether each of the first n destinations belongs to a transport that is there.
-fn all_homes_there(home: [u64; 32], transports: u64, n: usize) -> bool
-    requires { n ≤ 32 }
-    ensures { result ≡ all_to (λ d. ltb (at home d) transports) n }
+// Whether each of these destinations belongs to a transport that is there.
+fn all_homes_there(home: &[u64], transports: u64) -> bool
+    ensures { result ≡ list_all (λ t. ltb t transports) home.now }
 {
-    let mut good = true;
-    let mut d: usize = 0;
-    while d < n {
-        good = good & (home[d] < transports);
-        d += 1;
-    }
-    good
+    home.iter().all(|&t| t < transports)
 }
 
 // Whether a set-up is in the ranges, whatever it is.
 pub fn in_range(u: Setup) -> bool
     ensures { result ≡ setup_in_range u }
 {
-    let transports = u.transports;
-    let destinations = u.destinations;
-    if !(within(1, 4, transports) & within(1, 32, destinations)) {
-        return false;
-    }
-    let settings = u.settings;
-    let home = u.home;
-    all_settings_in_range(settings, transports as usize)
-        & all_homes_there(home, transports, destinations as usize)
+    within(1, 4, u.transports)
+        && within(1, 32, u.destinations)
+        && all_settings_in_range(&u.settings[..u.transports as usize])
+        && all_homes_there(&u.home[..u.destinations as usize], u.transports)
 }

@@ -3,19 +3,33 @@ use Prim.Native.Nat.{ℕ, suc, ◌+◌, ◌-◌, ◌≤◌, ◌<◌}
 use mathlib.Core.Path.{◌≡◌, refl, sym, ◌∙◌, ap}
 use mathlib.Core.Bool.{Bool, true}
 use mathlib.Core.List.{List, [], ◌∷◌, ◌++◌}
+use Rattle.std.proofs.Common.{Some, Ok, Err}
 use native.Mathlib.Omega.{arith}
 use lib.ListN.{length, take, drop, length-drop}
 use lib.Seq.{length-take-le}
-use lib.Dec.{leb}
 use borrow.Author.Tests.{le-leb, lt-leb, ne_eqb}
 use Rattle.laws.specs.Bools.{when◌then◌else◌}
 use Rattle.laws.proofs.Bools.{case_bool}
 use Rattle.rules.specs.Setup.{within}
+use Rattle.rules.specs.declared.Outcome.{Outcome}
+use Rattle.rules.specs.declared.Outcome.TheVariants.{Success, Failure}
+use Rattle.rules.specs.Answers.{outcome_number}
+use Rattle.rules.specs.Calls.{outcome_of}
 use Rattle.journal.specs.declared.Record.{Record}
-use Rattle.journal.specs.declared.Read.{Read}
 use Rattle.journal.specs.Numbers.{Number, number, fault, number_at}
 use Rattle.journal.specs.Told.{record_of, answer_of}
-use Rattle.journal.specs.Records.{pick, report, refused, event, closed, any_size, ranged, field_of, name_from, name_fields, job_from, job_fields, pick_fields, report_fields, fields_of, read_at}
+use Rattle.journal.specs.Records.{pick, report, refused, Found, event, closed, any_size, ranged, field_of, name_from, name_fields, job_from, job_fields, pick_fields, report_fields, fields_of, read_at}
+
+-- a record that is refused
+pub stops : {f : Found} {k start : ℕ} → f ≡ closed (refused k start) → Err (record { number = k; offset = start }) ≡ answer_of f
+unfolding answer_of
+stops h = ap answer_of (sym h)
+
+-- the outcome that a number tells
+pub outcome_told : (o : Outcome) {n : ℕ} → n ≡ outcome_number o → outcome_of n ≡ o
+unfolding outcome_of when◌then◌else◌
+outcome_told Success e = rw e refl
+outcome_told Failure e = rw e refl
 
 -- a number that is read is in its range
 passes : (ℕ → Bool) → Number → Bool
@@ -86,7 +100,7 @@ module _ (bytes : List ℕ) (start a : ℕ) where
       unfolding name_fields name_from field_of when◌then◌else◌
       name_cut l = rw (n, s, lt-leb (g + size) (length bytes) l) refl
 
-      pub name_whole : g + size ≤ length bytes → Read.Whole (Record.Name d size) (g + size) ≡ answer_of (name_fields bytes start a)
+      pub name_whole : g + size ≤ length bytes → Ok (Some (record { what = Record.Name d size; next = g + size })) ≡ answer_of (name_fields bytes start a)
       unfolding name_fields name_from field_of record_of answer_of when◌then◌else◌
       name_whole l =
           let long : length (take size (drop g bytes)) ≡ size = length-take-le size (drop g bytes) (rw length-drop (omega (arith, l))) in

@@ -1,36 +1,24 @@
 // The reader of a journal (A1): what stands at an offset, and a name as a part of the journal. Any bytes, any offset.
 #![tactic(auto)]
 
-ghost use Rattle.std.specs.Prelude.{◌≡◌, ◌+◌, []};
+ghost use Rattle.std.specs.Prelude.{◌≡◌, ◌+◌, ℕ, []};
 ghost use Rattle.laws.specs.Sequence.{padded};
-ghost use Rattle.journal.specs.Records.{report, refused, event, closed, name_fields, job_fields, pick_fields, report_fields, read_at};
-ghost use Rattle.journal.specs.Told.{answer_of, reading_of, name_of, name_start};
+ghost use Rattle.journal.specs.Records.{name_fields, job_fields, pick_fields, report_fields, read_at};
+ghost use Rattle.journal.specs.Told.{answer_of, ReadingOf, name_of, name_start};
+ghost use Rattle.reader.specs.Reads.{Reads, Gives};
 
 use fields::{number, ranged};
-use journal::{Read, Reading, Record};
-use rules::Outcome;
+use journal::{Reading, Record, Unreadable, Whole};
+use rules::{Outcome, Refusal};
 
 // What stands at an offset.
 pub fn read_at(journal: &[u8], offset: usize) -> Reading
-    ensures { result ≡ reading_of (read_at journal.now offset) }
+    ensures { ReadingOf (read_at journal.now offset) result }
 {
-    if journal.len() <= offset {
-        return alone(Read::End);
+    match read_any(journal, offset) {
+        Ok(reading) => reading,
+        Err(refusal) => alone(Err(Unreadable { refusal, offset })),
     }
-    let kind = ranged(journal, offset, 0, 3);
-    if kind.fault != 0 {
-        return alone(refused(kind.fault, offset));
-    }
-    if kind.value == 1 {
-        return read_job(journal, offset, kind.next);
-    }
-    if kind.value == 0 {
-        return alone(read_name(journal, offset, kind.next));
-    }
-    if kind.value == 2 {
-        return alone(read_pick(journal, offset, kind.next));
-    }
-    alone(read_report(journal, offset, kind.next))
 }
 
 // The name that stands at a record's offset, as that very part of the journal: its bytes, where they lie. Where none stands
@@ -39,169 +27,108 @@ pub fn name_at(journal: &[u8], offset: usize) -> &[u8]
     ensures bytes { result.now ≡ name_of (read_at journal.now offset) }
     ensures place { result.ref_ptr ≡ (journal.entry.ref_ptr.0, journal.entry.ref_ptr.1 + name_start (read_at journal.now offset)) }
 {
-    let r = read_at(journal, offset);
-    let answer = r.answer;
-    match answer {
-        Read::Whole { what, next } => match what {
-            Record::Name { length, .. } => {
-                let start = next - length as usize;
-                &journal[start..next]
-            }
-            Record::Job { .. } => &journal[..0],
-            Record::Pick { .. } => &journal[..0],
-            Record::Report { .. } => &journal[..0],
-        },
-        Read::End => &journal[..0],
-        Read::Refused { .. } => &journal[..0],
+    let Some(found) = read_at(journal, offset).answer.ok().flatten() else {
+        return &journal[..0];
+    };
+    match found.what {
+        Record::Name { length, .. } => &journal[found.next - length as usize..found.next],
+        _ => &journal[..0],
     }
 }
 
 // An answer with no destinations.
-fn alone(answer: Read) -> Reading
+fn alone(answer: Result<Option<Whole>, Unreadable>) -> Reading
     ensures { (result.answer ≡ answer) × (result.destinations ≡ padded 256 []) }
 {
     Reading {
-        answer: answer,
+        answer,
         destinations: [0u64; 256],
     }
 }
 
-fn refused(number: u8, offset: usize) -> Read
-    ensures { result ≡ answer_of (closed (refused number offset)) }
+fn read_any(journal: &[u8], offset: usize) -> Result<Reading, Refusal>
+    ensures { Gives offset (read_at journal.now offset) result }
 {
-    Read::Refused { number, offset }
+    if journal.len() <= offset {
+        return Ok(alone(Ok(None)));
+    }
+    let kind = ranged(journal, offset, 0, 3)?;
+    let whole = match kind.value {
+        0 => read_name(journal, kind.next)?,
+        1 => return read_job(journal, kind.next),
+        2 => read_pick(journal, kind.next)?,
+        _ => read_report(journal, kind.next)?,
+    };
+    Ok(alone(Ok(Some(whole))))
 }
 
-// Each of these reads the record that begins at `start`, from its first field on.
+// Each of these reads a record from its first field on.
 
-fn read_name(journal: &[u8], start: usize, from: usize) -> Read
-    ensures { result ≡ answer_of (name_fields journal.now start from) }
+fn read_name(journal: &[u8], from: usize) -> Result<Whole, Refusal>
+    ensures { Reads (λ start. name_fields journal.now start from) result }
 {
-    let d = ranged(journal, from, 0, 31);
-    if d.fault != 0 {
-        return refused(d.fault, start);
+    let d = ranged(journal, from, 0, 31)?;
+    let size = ranged(journal, d.next, 1, 63)?;
+    if ((journal.len() - size.next) as u64) < size.value {
+        return Err(Refusal::CutShort);
     }
-    let size = ranged(journal, d.next, 1, 63);
-    if size.fault != 0 {
-        return refused(size.fault, start);
-    }
-    let at = size.next;
-    let length = size.value;
-    if ((journal.len() - at) as u64) < length {
-        return refused(12, start);
-    }
-    Read::Whole {
+    Ok(Whole {
         what: Record::Name {
             destination: d.value,
-            length: length,
+            length: size.value,
         },
-        next: at + length as usize,
-    }
+        next: size.next + size.value as usize,
+    })
 }
 
-fn read_job(journal: &[u8], start: usize, from: usize) -> Reading
-    ensures { result ≡ reading_of (job_fields journal.now start from) }
+fn read_job(journal: &[u8], from: usize) -> Result<Reading, Refusal>
+    ensures { (start : ℕ) → Gives start (job_fields journal.now start from) result }
 {
-    let clock = number(journal, from);
-    if clock.fault != 0 {
-        return alone(refused(clock.fault, start));
+    let clock = number(journal, from)?;
+    let transport = number(journal, clock.next)?;
+    let count = ranged(journal, transport.next, 1, 256)?;
+    let mut destinations = [0u64; 256];
+    let mut next = count.next;
+    for i in 0..count.value as usize {
+        let d = number(journal, next)?;
+        destinations[i] = d.value;
+        next = d.next;
     }
-    let transport = number(journal, clock.next);
-    if transport.fault != 0 {
-        return alone(refused(transport.fault, start));
-    }
-    let count = ranged(journal, transport.next, 1, 256);
-    if count.fault != 0 {
-        return alone(refused(count.fault, start));
-    }
-    let mut list = [0u64; 256];
-    let many = count.value as usize;
-    let mut at = count.next;
-    let mut i: usize = 0;
-    while i < many {
-        let d = number(journal, at);
-        if d.fault != 0 {
-            return alone(refused(d.fault, start));
-        }
-        list[i] = d.value;
-        at = d.next;
-        i += 1;
-    }
-    Reading {
-        answer: Read::Whole {
-            what: Record::Job {
-                clock: clock.value,
-                transport: transport.value,
-                count: count.value,
-            },
-            next: at,
-        },
-        destinations: list,
-    }
+    let what = Record::Job {
+        clock: clock.value,
+        transport: transport.value,
+        count: count.value,
+    };
+    Ok(Reading {
+        answer: Ok(Some(Whole { what, next })),
+        destinations,
+    })
 }
 
-fn read_pick(journal: &[u8], start: usize, from: usize) -> Read
-    ensures { result ≡ answer_of (pick_fields journal.now start from) }
+fn read_pick(journal: &[u8], from: usize) -> Result<Whole, Refusal>
+    ensures { Reads (λ start. pick_fields journal.now start from) result }
 {
-    let clock = number(journal, from);
-    if clock.fault != 0 {
-        return refused(clock.fault, start);
-    }
-    Read::Whole {
+    let clock = number(journal, from)?;
+    Ok(Whole {
         what: Record::Pick { clock: clock.value },
         next: clock.next,
-    }
+    })
 }
 
-fn read_report(journal: &[u8], start: usize, from: usize) -> Read
-    ensures { result ≡ answer_of (report_fields journal.now start from) }
+fn read_report(journal: &[u8], from: usize) -> Result<Whole, Refusal>
+    ensures { Reads (λ start. report_fields journal.now start from) result }
 {
-    let clock = number(journal, from);
-    if clock.fault != 0 {
-        return refused(clock.fault, start);
-    }
-    let entry = number(journal, clock.next);
-    if entry.fault != 0 {
-        return refused(entry.fault, start);
-    }
-    let ticket = number(journal, entry.next);
-    if ticket.fault != 0 {
-        return refused(ticket.fault, start);
-    }
-    let outcome = ranged(journal, ticket.next, 0, 1);
-    if outcome.fault != 0 {
-        return refused(outcome.fault, start);
-    }
-    reported(
-        clock.value,
-        entry.value,
-        ticket.value,
-        outcome.value,
-        outcome.next,
-    )
-}
-
-fn reported(clock: u64, entry: u64, ticket: u64, outcome: u64, next: usize) -> Read
-    ensures { result ≡ answer_of (event (report clock entry ticket outcome) next) }
-{
-    if outcome == 1 {
-        return Read::Whole {
-            what: Record::Report {
-                clock: clock,
-                entry: entry,
-                ticket: ticket,
-                outcome: Outcome::Failure,
-            },
-            next: next,
-        };
-    }
-    Read::Whole {
+    let clock = number(journal, from)?;
+    let entry = number(journal, clock.next)?;
+    let ticket = number(journal, entry.next)?;
+    let outcome = ranged(journal, ticket.next, 0, 1)?;
+    Ok(Whole {
         what: Record::Report {
-            clock: clock,
-            entry: entry,
-            ticket: ticket,
-            outcome: Outcome::Success,
+            clock: clock.value,
+            entry: entry.value,
+            ticket: ticket.value,
+            outcome: Outcome::try_from(outcome.value)?,
         },
-        next: next,
-    }
+        next: outcome.next,
+    })
 }

@@ -1,15 +1,15 @@
 -- Request A5, the call: from the state and all arguments, the lent list's contents among them, to what it answers and what the list then holds.
-use Rattle.std.specs.Prelude.{ℕ, ◌%◌, Bool, not, ◌&&◌, List, [], ◌∷◌, length, eqb, ltb, leb}
+use Rattle.std.specs.Prelude.{ℕ, ◌%◌, Bool, not, ◌&&◌, List, [], ◌∷◌, length, Result, eqb, ltb, leb}
 use Rattle.laws.specs.Bools.{when◌then◌else◌}
 use Rattle.laws.specs.Sequence.{every_in}
 use Rattle.rules.specs.declared.State.{State}
+use Rattle.rules.specs.declared.Refusal.{Refusal}
 use Rattle.rules.specs.Sizes.{max_length}
 use Rattle.rules.specs.Setup.{within}
 use Rattle.rules.specs.Sound.{sound}
 use Rattle.rules.specs.Refusals.{is_destination_on}
-use Rattle.rules.specs.Calls.{Says, Reply, refused, granted, written, unless_refused}
-use Rattle.recipients.specs.declared.GroupAnswer.{GroupAnswer}
-use Rattle.recipients.specs.declared.GroupAnswer.TheVariants
+use Rattle.rules.specs.Calls.{Reply, granted, written, unless_refused}
+use Rattle.rules.specs.Answers.{number_says}
 use Rattle.recipients.specs.Groups.{destinations_of, group_count, group_numbers}
 
 -- "its recipient limit 1 to 50"
@@ -49,11 +49,7 @@ group_reply s t limit pairs list =
       buffer = written (group_numbers limit (destinations_of pairs)) list;
     })
 
--- the paper's number and values for each case of the answer
-abbrev pub group_says : GroupAnswer → Says
-group_says (GroupAnswer.Refused k) = refused k
-group_says (GroupAnswer.Grouped n) = granted (n ∷ [])
-
--- what the call gave back, to be compared with the reply. It takes the state by value and hands none back: that is the caller's, as it was.
-abbrev pub group_gave : GroupAnswer → State → List ℕ → Reply
-group_gave a s list = record { says = group_says a; state = s; buffer = list }
+-- what the call gave back, the number of groups or a refusal, to be compared with the reply. It takes the state by value and hands none back: that is
+-- the caller's, as it was.
+abbrev pub group_gave : Result ℕ Refusal → State → List ℕ → Reply
+group_gave a s list = record { says = number_says a; state = s; buffer = list }

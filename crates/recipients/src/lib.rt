@@ -1,9 +1,2 @@
-// Request A5: recipients cut into entries. What the call answers; every definition of it is in specs/.
+// Request A5: recipients cut into entries. Definitions alone, in specs/; the call answers the number of groups, or a refusal. No code.
 #![tactic(auto)]
-
-// The number of groups, or a refusal.
-#[derive(Drop)]
-pub enum GroupAnswer {
-    Refused(u8),
-    Grouped(u16),
-}

@@ -1,6 +1,6 @@
 -- What a line says, by its front, its first word and its numbers.
 use Prim.Native.Nat.{ℕ, ◌+◌, ◌-◌, ◌≤◌, ◌<◌}
-use mathlib.Core.Path.{◌≡◌, refl, sym, ◌∙◌}
+use mathlib.Core.Path.{◌≡◌, refl, sym, ◌∙◌, ap}
 use mathlib.Core.Bool.{Bool, true, false, ◌&&◌}
 use mathlib.Core.List.{List, [], ◌∷◌}
 use native.Mathlib.Omega.{arith}
@@ -13,14 +13,14 @@ use Rattle.laws.specs.Bools.{when◌then◌else◌}
 use Rattle.laws.specs.Sequence.{up_to}
 use Rattle.laws.proofs.Bools.{case_bool, if_true, if_false, and_both, and_left_false, and_right_false}
 use Rattle.rules.specs.State.{at}
-use Rattle.lines.specs.declared.text.Number.{Number}
+use Rattle.std.proofs.Common.{Some, None}
 use Rattle.lines.specs.Names.{job_name, pick_name, report_name}
 use Rattle.lines.specs.Words.{words_of, same_bytes, is_number, value_of, number_of, numbers_of, FirstFrom, not_blank, Read}
 use Rattle.lines.proofs.WordLaws.{blank_behind, words_first}
 use Rattle.lines.proofs.ReadingLaws.{number_is, number_not, words_none, skipped}
 use Rattle.journal.specs.Records.{name, job, pick, report}
-use Rattle.record.specs.Lines.{Line, nothing, none, says, name_name, unblanked}
-use Rattle.record.specs.Lines.{name_line, job_line, pick_line, report_line, numbers_line, words_line, line_of, line_in}
+use Rattle.record.specs.Lines.{nothing, none, says, name_name, unblanked}
+use Rattle.record.specs.Lines.{name_line, job_line, pick_line, report_line, numbers_line, words_line, line_of}
 use Rattle.record.proofs.FrontLaws.{to_end, unblanked_is, FirstWord, word_long, first_word_is, behind_is}
 
 -- The numbers of a word.
@@ -33,13 +33,20 @@ module _ (words : List ℕ) where
   pub job_short : length words < 3 → job_line words ≡ none
   job_short h = job_none (λ q. omega (arith, q))
 
-  pub job_other : 3 ≤ length words → (at words 2 ≡ length words - 3 → ⊥) → job_line words ≡ none
-  job_other h n = job_none (λ q. n (omega (arith, q)))
+  -- what stands behind the count
+  abbrev behind_count : List ℕ
+  behind_count = take (length words - 3) (drop 3 words)
 
-  pub job_said : 3 ≤ length words → at words 2 ≡ length words - 3 → job_line words ≡ says (job (at words 0) (at words 1) (take (length words - 3) (drop 3 words)))
+  behind_long : length behind_count ≡ length words - 3
+  behind_long = ap length (to_end words 3) ∙ length-drop 3 words
+
+  pub job_other : 3 ≤ length words → (at words 2 ≡ length behind_count → ⊥) → job_line words ≡ none
+  job_other h n = job_none (λ q. n (omega (arith, q, behind_long)))
+
+  pub job_said : 3 ≤ length words → at words 2 ≡ length behind_count → job_line words ≡ says (job (at words 0) (at words 1) behind_count)
   unfolding job_line
   job_said l h =
-      let n : length words ≡ 3 + at words 2 = omega (arith, h) in
+      let n : length words ≡ 3 + at words 2 = omega (arith, h, behind_long) in
       rw (to_end words 3) (if_true _ _ (eq-eqb _ _ n))
 
   pub pick_none : (length words ≡ 1 → ⊥) → pick_line words ≡ none
@@ -146,29 +153,14 @@ module _ (line : List ℕ) (p end : ℕ) (w : FirstWord line p end) where
   pub name_ends : length line ≤ end → name_line (unblanked line) ≡ none
   name_ends h = name_none (and_right_false (has_word && is_number word) (le-ltb 0 (length rest) (omega (arith, length-drop end line))))
 
-  pub name_not : number_of word ≡ Number.No → name_line (unblanked line) ≡ none
+  pub name_not : number_of word ≡ None → name_line (unblanked line) ≡ none
   name_not h = name_none (and_left_false has_rest (and_right_false has_word (number_not word h)))
 
   pub name_said :
-      (d : ℕ) → (end ≡ p → ⊥) → end < length line → number_of word ≡ Number.Is d
+      (d : ℕ) → (end ≡ p → ⊥) → end < length line → number_of word ≡ Some d
       → name_line (unblanked line) ≡ says (name d (take (length line - (end + 1)) (drop (end + 1) line)))
   name_said d n l h =
       let i = number_is word d h in
       let a : 0 < length word = elim (dec_lt p end) [ yes m ↦ omega (arith, word_long line p end w) | no m ↦ absurd (n (omega (arith, w.ends.start))) ] in
       let b : 0 < length rest = omega (arith, length-drop end line) in
       by_parts ∙ if_true _ _ (and_both (and_both (lt-ltb _ _ a) i.0) (lt-ltb _ _ b)) ∙ rw (i.1, drop-drop, to_end) refl
-
--- The modes of a line.
-
-module _ (mode : ℕ) (line : List ℕ) where
-  pub mode_none : mode ≡ 1 → line_in mode line ≡ none
-  unfolding line_in when◌then◌else◌
-  mode_none h = rw h refl
-
-  pub mode_nothing : (mode ≡ 1 → ⊥) → (mode ≡ 0 → ⊥) → line_in mode line ≡ nothing
-  unfolding line_in
-  mode_nothing n z = if_false _ _ (ne_eqb _ _ z) ∙ if_false _ _ (ne_eqb _ _ n)
-
-  pub mode_whole : {x : Line} → mode ≡ 0 → line_of line ≡ x → line_in mode line ≡ x
-  unfolding line_in
-  mode_whole z h = if_true _ _ (eq-eqb _ _ z) ∙ h

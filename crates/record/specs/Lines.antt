@@ -1,14 +1,15 @@
 -- What a line of `record` says, what is written for it, and what is told of it. docs/REPLAY.md, "Writing one".
-use Rattle.std.specs.Prelude.{ℕ, ◌+◌, ◌≡◌, ◌&&◌, List, [], ◌∷◌, length, take, drop, eqb, ltb}
+use Rattle.std.specs.Prelude.{ℕ, ◌+◌, ◌≡◌, ◌&&◌, List, [], ◌∷◌, length, take, drop, Option, Some, None, Result, Ok, Err, eqb, ltb}
 use Rattle.laws.specs.Bools.{when◌then◌else◌}
 use Rattle.laws.specs.Sequence.{up_to}
+use Rattle.rules.specs.declared.Refusal.{Refusal}
 use Rattle.rules.specs.State.{at}
+use Rattle.lines.specs.declared.input.Part.{Part}
 use Rattle.lines.specs.Names.{job_name, pick_name, report_name}
 use Rattle.lines.specs.Words.{words_of, same_bytes, is_number, value_of, all_numbers, numbers_of}
 use Rattle.journal.specs.Records.{Event, name, job, pick, report}
 use Rattle.journal.specs.Writes.{bytes_of, writable}
-use Rattle.journal.specs.declared.Written.{Written}
-use Rattle.record.specs.declared.Recorded.{Recorded}
+use Rattle.record.specs.declared.Unwritten.{Unwritten}
 
 pub data Line : Type 0 where
   -- an empty line, or one that begins with '#'
@@ -70,9 +71,11 @@ line_of line =
     else when same_bytes (first_word (unblanked line)) name_name then name_line (unblanked (behind (unblanked line)))
     else words_line (words_of line)
 
--- Mode: 0 for a whole line; of one that was too long, 1, or another where it began with '#'.
-unfoldable pub line_in : ℕ → List ℕ → Line
-line_in mode line = when eqb mode 0 then line_of line else when eqb mode 1 then none else nothing
+-- of a line that was too long only its end is there: a comment where it began with '#', else no line that says a record
+unfoldable pub line_in : Part → List ℕ → Line
+line_in Part.Whole line = line_of line
+line_in Part.TooLong line = none
+line_in Part.TooLongComment line = nothing
 
 -- what is written: a line that says no record, or one that is refused, "leaves the journal as if it were not there"
 unfoldable pub bytes_for : Line → List ℕ
@@ -81,24 +84,23 @@ bytes_for none = []
 bytes_for (says e) = when writable e then bytes_of e else []
 
 -- what is done: so many bytes are written, or the line is told of; there is room for every record
-unfoldable pub done_with : Line → Recorded
-done_with nothing = Recorded.Nothing
-done_with none = Recorded.NoRecord
-done_with (says e) = when writable e then Recorded.Bytes (length (bytes_of e)) else Recorded.Refused 14
+unfoldable pub done_with : Line → Result (Option ℕ) Unwritten
+done_with nothing = Ok None
+done_with none = Err Unwritten.NoRecord
+done_with (says e) = when writable e then Ok (Some (length (bytes_of e))) else Err (Unwritten.Refused Refusal.OutOfRange)
 
 -- how many bytes that is
-unfoldable pub size_of : Recorded → ℕ
-size_of Recorded.Nothing = 0
-size_of Recorded.NoRecord = 0
-size_of (Recorded.Refused k) = 0
-size_of (Recorded.Bytes n) = n
+unfoldable pub size_of : Result (Option ℕ) Unwritten → ℕ
+size_of (Ok (Some n)) = n
+size_of (Ok None) = 0
+size_of (Err u) = 0
 
 -- What the code promises of a line: that is what is done, and its bytes stand at the front of the buffer that is left.
-pub record Done (line : Line) (r : Recorded) (exit : List ℕ) : Type 0 where
+pub record Done (line : Line) (r : Result (Option ℕ) Unwritten) (exit : List ℕ) : Type 0 where
   pub answer : r ≡ done_with line
   pub bytes : take (size_of r) exit ≡ bytes_for line
 
--- How the code tells the writer's answer.
-abbrev pub recorded_as : Written → Recorded
-recorded_as (Written.Used n) = Recorded.Bytes n
-recorded_as (Written.Refused k) = Recorded.Refused k
+-- How the code tells of a line that is neither empty nor a comment.
+abbrev pub of_record : Result ℕ Unwritten → Result (Option ℕ) Unwritten
+of_record (Ok n) = Ok (Some n)
+of_record (Err u) = Err u

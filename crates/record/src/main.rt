@@ -2,21 +2,41 @@
 #![tactic(auto)]
 
 ghost use Rattle.std.specs.Prelude.{◌≡◌, ◌+◌, ◌*◌, ◌≤◌, ◌<◌, length, take};
-ghost use Rattle.record.specs.Lines.{unblanked, name_line, job_line, pick_line, report_line, numbers_line, line_in, bytes_for, done_with, size_of, Done, recorded_as};
+ghost use Rattle.record.specs.declared.Unwritten.{Unwritten};
+ghost use Rattle.record.specs.Lines.{unblanked, name_line, job_line, pick_line, report_line, numbers_line, line_of, line_in, bytes_for, done_with, size_of, of_record, Done};
 
-use journal::Written;
-use lines::text::{Number, find, same};
+use lines::input::Part;
+use lines::text::find;
 use lines::{answer, input, text};
-use std::io;
+use rules::Refusal;
+use std::error::Error;
 use std::io::{Eprint, Read, Write};
+use std::{fmt, io};
 
-// What is done with a line: nothing; it says no record; the writer refuses it; or so many bytes are written.
-#[derive(Drop)]
-enum Recorded {
-    Nothing,
+// Why nothing is written for a line: it says no record, or the writer refuses it.
+#[derive(Clone, Copy, Debug, PartialEq, Eq)]
+enum Unwritten {
     NoRecord,
-    Refused(u8),
-    Bytes(usize),
+    Refused(Refusal),
+}
+
+impl fmt::Display for Unwritten {
+    fn fmt<W: fmt::Write>(&self, f: &mut fmt::Formatter<W>) -> fmt::Result {
+        match self {
+            Unwritten::NoRecord => write!(f, "no record"),
+            Unwritten::Refused(refusal) => write!(f, "refused {refusal}"),
+        }
+    }
+}
+
+impl Error for Unwritten {}
+
+impl From<Refusal> for Unwritten {
+    ghost from_gives = { λ k u. u ≡ Unwritten.Refused k };
+
+    fn from(refusal: Refusal) -> Unwritten {
+        Unwritten::Refused(refusal)
+    }
 }
 
 fn main(rt: HostRuntime) -> io::Result<()> {
@@ -43,9 +63,7 @@ fn run<R: Read, W: Write, E: Eprint>(
     let mut l = input::none();
     for before in 0..u64::MAX {
         l = input::next_line(from, line, l)?;
-        let start = l.start;
-        let end = l.end;
-        record(to, errors, &line[start..end], words, l.mode, before + 1)?;
+        record(to, errors, &line[l.start..l.end], words, l.part, before + 1)?;
         if l.over {
             return Ok(());
         }
@@ -59,7 +77,7 @@ fn record<W: Write, E: Eprint>(
     errors: &E,
     line: &[u8],
     words: &mut [u64],
-    mode: u8,
+    part: Part,
     number: u64,
 ) -> io::Result<()>
     requires { length line.now ≤ 2 * length words.old }
@@ -67,125 +85,115 @@ fn record<W: Write, E: Eprint>(
     // room for every record: five groups for each of 260 numbers
     let mut out_space = [0u8; 1300];
     let out: &mut [u8] = &mut out_space;
-    let r = written(line, words, mode, out);
-    match r {
-        Recorded::Nothing => Ok(()),
-        Recorded::NoRecord => eprintln!(errors; "line {number}: no record"),
-        Recorded::Refused(k) => eprintln!(errors; "line {number}: refused {k}"),
-        Recorded::Bytes(n) => answer::write(to, out, n),
+    match written(line, words, part, out) {
+        Ok(Some(n)) => answer::write(to, out, n),
+        Ok(None) => Ok(()),
+        Err(reason) => eprintln!(errors; "line {number}: {reason}"),
     }
 }
 
-// Puts the record of a line at the front of a buffer with room for every record. Mode: 0 for a whole line; of one that was too long, 1, or 2
-// where it began with '#'.
-fn written(line: &[u8], words: &mut [u64], mode: u8, out: &mut [u8]) -> Recorded
+// Puts the record of a line, or of the part of it that is there, at the front of a buffer with room for every record. The answer is how many
+// bytes it has; none for an empty line or a comment.
+fn written(
+    line: &[u8],
+    words: &mut [u64],
+    part: Part,
+    out: &mut [u8],
+) -> Result<Option<usize>, Unwritten>
     requires { (length line.now ≤ 2 * length words.old) × (1300 ≤ length out.old) }
-    ensures done { result ≡ done_with (line_in mode line.now) }
-    ensures bytes { take (size_of result) out.new ≡ bytes_for (line_in mode line.now) }
+    ensures done { result ≡ done_with (line_in part line.now) }
+    ensures bytes { take (size_of result) out.new ≡ bytes_for (line_in part line.now) }
 {
-    if mode == 1 {
-        return Recorded::NoRecord;
+    match part {
+        Part::Whole => whole(line, words, out),
+        Part::TooLong => Err(Unwritten::NoRecord),
+        Part::TooLongComment => Ok(None),
     }
-    if mode != 0 {
-        return Recorded::Nothing;
-    }
-    let n = line.len();
+}
+
+fn whole(line: &[u8], words: &mut [u64], out: &mut [u8]) -> Result<Option<usize>, Unwritten>
+    requires { (length line.now ≤ 2 * length words.old) × (1300 ≤ length out.old) }
+    ensures { Done (line_of line.now) result out.new }
+{
     let at = text::skip_blanks(line, 0);
-    if n <= at {
-        return Recorded::Nothing;
+    if line.len() <= at {
+        return Ok(None);
     }
-    if line[0] == 35 {
-        return Recorded::Nothing;
+    if line[0] == b'#' {
+        return Ok(None);
     }
-    let end = find(line, at, n, 32);
-    if same(&line[at..end], b"name") {
-        return write_name(&line[end..], out);
+    let end = find(line, at, line.len(), b' ');
+    if &line[at..end] == b"name".as_slice() {
+        return Ok(Some(write_name(&line[end..], out)?));
     }
-    let got = text::read_numbers(line, end, words);
-    let k = got.count;
-    if !got.whole {
-        return Recorded::NoRecord;
-    }
-    write_numbers(&line[at..end], &words[..k], out)
+    let k = text::read_numbers(line, end, words).ok_or(Unwritten::NoRecord)?;
+    Ok(Some(write_numbers(&line[at..end], &words[..k], out)?))
 }
 
 // What stands behind the word `name`.
-fn write_name(line: &[u8], out: &mut [u8]) -> Recorded
+fn write_name(line: &[u8], out: &mut [u8]) -> Result<usize, Unwritten>
     requires { 1300 ≤ length out.old }
-    ensures { Done (name_line (unblanked line.now)) result out.new }
+    ensures { Done (name_line (unblanked line.now)) (of_record result) out.new }
 {
     let n = line.len();
     let at = text::skip_blanks(line, 0);
-    let end = find(line, at, n, 32);
+    let end = find(line, at, n, b' ');
     if end == at {
-        return Recorded::NoRecord;
+        return Err(Unwritten::NoRecord);
     }
     if n <= end {
-        return Recorded::NoRecord;
+        return Err(Unwritten::NoRecord);
     }
-    let Number::Is(d) = text::read_number(&line[at..end]) else {
-        return Recorded::NoRecord;
-    };
-    let from = end + 1;
-    recorded_as(writer::write_name(out, 0, d, &line[from..]))
+    let d = text::read_number(&line[at..end]).ok_or(Unwritten::NoRecord)?;
+    Ok(writer::write_name(out, 0, d, &line[end + 1..])?)
 }
 
 // The record of that word with these numbers.
-fn write_numbers(word: &[u8], words: &[u64], out: &mut [u8]) -> Recorded
+fn write_numbers(word: &[u8], words: &[u64], out: &mut [u8]) -> Result<usize, Unwritten>
     requires { 1300 ≤ length out.old }
-    ensures { Done (numbers_line word.now words.now) result out.new }
+    ensures { Done (numbers_line word.now words.now) (of_record result) out.new }
 {
-    if same(word, b"job") {
+    if word == b"job".as_slice() {
         return write_job(words, out);
     }
-    if same(word, b"pick") {
+    if word == b"pick".as_slice() {
         return write_pick(words, out);
     }
-    if same(word, b"report") {
+    if word == b"report".as_slice() {
         return write_report(words, out);
     }
-    Recorded::NoRecord
+    Err(Unwritten::NoRecord)
 }
 
-fn write_job(words: &[u64], out: &mut [u8]) -> Recorded
+fn write_job(words: &[u64], out: &mut [u8]) -> Result<usize, Unwritten>
     requires { 1300 ≤ length out.old }
-    ensures { Done (job_line words.now) result out.new }
+    ensures { Done (job_line words.now) (of_record result) out.new }
 {
-    let k = words.len();
-    if k < 3 {
-        return Recorded::NoRecord;
+    let [clock, transport, count, destinations @ ..] = words else {
+        return Err(Unwritten::NoRecord);
+    };
+    if *count != destinations.len() as u64 {
+        return Err(Unwritten::NoRecord);
     }
-    if words[2] != (k - 3) as u64 {
-        return Recorded::NoRecord;
-    }
-    recorded_as(writer::write_job(out, 0, words[0], words[1], &words[3..]))
+    Ok(writer::write_job(out, 0, *clock, *transport, destinations)?)
 }
 
-fn write_pick(words: &[u64], out: &mut [u8]) -> Recorded
+fn write_pick(words: &[u64], out: &mut [u8]) -> Result<usize, Unwritten>
     requires { 1300 ≤ length out.old }
-    ensures { Done (pick_line words.now) result out.new }
+    ensures { Done (pick_line words.now) (of_record result) out.new }
 {
-    if words.len() != 1 {
-        return Recorded::NoRecord;
-    }
-    recorded_as(writer::write_pick(out, 0, words[0]))
+    let [clock] = words else {
+        return Err(Unwritten::NoRecord);
+    };
+    Ok(writer::write_pick(out, 0, *clock)?)
 }
 
-fn write_report(words: &[u64], out: &mut [u8]) -> Recorded
+fn write_report(words: &[u64], out: &mut [u8]) -> Result<usize, Unwritten>
     requires { 1300 ≤ length out.old }
-    ensures { Done (report_line words.now) result out.new }
+    ensures { Done (report_line words.now) (of_record result) out.new }
 {
-    if words.len() != 4 {
-        return Recorded::NoRecord;
-    }
-    recorded_as(writer::write_report(out, 0, words[0], words[1], words[2], words[3]))
-}
-
-fn recorded_as(a: Written) -> Recorded
-    ensures { result ≡ recorded_as a }
-{
-    match a {
-        Written::Used(n) => Recorded::Bytes(n),
-        Written::Refused(k) => Recorded::Refused(k),
-    }
+    let [clock, entry, ticket, outcome] = words else {
+        return Err(Unwritten::NoRecord);
+    };
+    Ok(writer::write_report(out, 0, *clock, *entry, *ticket, *outcome)?)
 }

@@ -6,16 +6,15 @@ ghost use Rattle.journal.specs.Journals.{journal_of};
 ghost use Rattle.replaying.specs.Replay.{replay_text};
 ghost use Rattle.replay.specs.Budget.{is_decimal, budget_of};
 
-use lines::text::Number;
 use lines::{answer, input, text};
 use std::env::{Env, FillError};
 use std::io;
 use std::io::{Eprint, Read, Write};
 
 fn main(rt: HostRuntime) -> io::Result<()> {
-    let mut journal_space = journal_zeros();
+    let mut journal_space = zeros::<262144>();
     let journal: &mut [u8] = &mut journal_space;
-    let mut out_space = text_zeros();
+    let mut out_space = zeros::<1314816>();
     let out: &mut [u8] = &mut out_space;
     let budget = asked(&rt)?;
     let mut from = rt.reader();
@@ -23,19 +22,12 @@ fn main(rt: HostRuntime) -> io::Result<()> {
     run(&mut from, &mut to, budget, journal, out)
 }
 
-// Room for the longest journal that is read, and for the longest text of one. The contracts give the length alone, which is what lending
-// an array as a slice needs.
-
-fn journal_zeros() -> [u8; 262144]
-    ensures { 262144 ≡ length result }
+// Room for the longest journal that is read, and for the longest text of one: so many zeros. The contract gives the length alone, which is what
+// lending an array as a slice needs.
+fn zeros<const N: usize>() -> [u8; N]
+    ensures { N ≡ length result }
 {
-    [0; 262144]
-}
-
-fn text_zeros() -> [u8; 1314816]
-    ensures { 1314816 ≡ length result }
-{
-    [0; 1314816]
+    [0; N]
 }
 
 // Replays the journal that is read, and writes what that prints.
@@ -59,8 +51,7 @@ fn text_of(journal: &[u8], budget: u64, out: &mut [u8]) -> usize
     requires { 5 * length journal.now + 4096 ≤ length out.old }
     ensures { take result out.new ≡ replay_text (journal_of journal.now) budget }
 {
-    let r = replaying::replay(journal, budget, out);
-    r.length
+    replaying::replay(journal, budget, out).length
 }
 
 // The budget that the first argument asks for; all records where there is none. An argument has at most 131,071 bytes. One that is no number is
@@ -69,7 +60,7 @@ fn asked<E: Env + Eprint>(rt: &E) -> io::Result<u64> {
     let mut space = [0u8; 131072];
     let n = match rt.arg(1, &mut space) {
         Ok(n) => n,
-        Err(FillError::NotPresent) => return Ok(all()),
+        Err(FillError::NotPresent) => return Ok(u64::MAX),
         Err(FillError::TooLong) => 0,
     };
     let word = &space[..n];
@@ -84,35 +75,14 @@ fn budget_of(word: &[u8]) -> u64
     ensures { result ≡ budget_of word.now }
 {
     if !is_decimal(word) {
-        return all();
+        return u64::MAX;
     }
-    let number = text::read_number(word);
-    match number {
-        Number::Is(x) => x,
-        Number::No => all(),
-    }
-}
-
-fn all() -> u64
-    ensures { result ≡ 18446744073709551615 }
-{
-    18446744073709551615
+    text::read_number(word).unwrap_or(u64::MAX)
 }
 
 // Digits only, at least one.
 fn is_decimal(word: &[u8]) -> bool
     ensures { result ≡ is_decimal word.now }
 {
-    let mut i: usize = 0;
-    while i < word.len() {
-        let b = word[i];
-        if b < 48 {
-            return false;
-        }
-        if 57 < b {
-            return false;
-        }
-        i += 1;
-    }
-    0 < i
+    !word.is_empty() && word.iter().all(|&b| b.is_ascii_digit())
 }

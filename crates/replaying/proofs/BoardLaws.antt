@@ -3,13 +3,14 @@ use Prim.Native.Nat.{ℕ, ◌≤◌, min}
 use mathlib.Core.Path.{◌≡◌, refl, ◌∙◌, ap}
 use mathlib.Core.Bool.{true}
 use mathlib.Core.List.{List}
+use Rattle.std.proofs.Common.{Result, Ok, Err}
 use native.Mathlib.Omega.{arith}
 use lib.ListN.{length, take}
 use lib.Seq.{take_at}
 use borrow.Author.Tests.{le-ltb}
 use Rattle.laws.specs.Bools.{when◌then◌else◌}
 use Rattle.rules.specs.declared.State.{State}
-use Rattle.rules.specs.declared.BoardAnswer.{BoardAnswer}
+use Rattle.rules.specs.declared.Refusal.{Refusal}
 use Rattle.rules.specs.State.{at}
 use Rattle.rules.specs.Setup.{setup_in_range}
 use Rattle.rules.specs.Board.{board_text}
@@ -45,16 +46,16 @@ board_fits calls = record { whole = (companions replay_setup in_range calls).rea
 
 -- What a call that has room gives back: an answer of the text's length, and the text at the buffer's front.
 
-module _ (s : State) (fits : BoardFits s) (text : List ℕ) (long : length text ≡ 4096) {a : BoardAnswer} {buffer : List ℕ}
+module _ (s : State) (fits : BoardFits s) (text : List ℕ) (long : length text ≡ 4096) {a : Result ℕ Refusal} {buffer : List ℕ}
     (gave : board_gave a s buffer ≡ board_reply s text) where
-  told : {b : BoardAnswer} → a ≡ b → board_gave b s buffer ≡ accepted s (board text)
+  told : {b : Result ℕ Refusal} → a ≡ b → board_gave b s buffer ≡ accepted s (board text)
   unfolding reply_to unless_refused board_refusal when◌then◌else◌
   told h = rw (← h) (gave ∙ rw (fits.whole, le-ltb (length text) (length (board_text s)) (omega (arith, long, fits.short))) refl)
 
-  pub not_refused : {k : ℕ} → a ≡ BoardAnswer.Refused k → ⊥
+  pub not_refused : {k : Refusal} → a ≡ Err k → ⊥
   not_refused h = let e : ◌≡◌ {A = ℕ} 0 1 = ap (λ r. length r.says.values) (told h) in omega (arith, e)
 
-  pub wholly_written : {n m : ℕ} → a ≡ BoardAnswer.Written n → m ≡ min n 4096 → take m buffer ≡ board_text s
+  pub wholly_written : {n m : ℕ} → a ≡ Ok n → m ≡ min n 4096 → take m buffer ≡ board_text s
   wholly_written {n} {m} h l =
       let count : n ≡ length (board_text s) = ap (λ r. at r.says.values 0) (told h) in
       ap (λ r. take m r.buffer) (told h) ∙ take_at (board_text s) _ m (omega (arith, count, l, fits.short))

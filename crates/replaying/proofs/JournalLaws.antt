@@ -2,25 +2,28 @@
 use Prim.Native.Nat.{ℕ, zero, suc, ◌+◌, ◌*◌, ◌≤◌}
 use mathlib.Core.Path.{◌≡◌, refl, sym, ◌∙◌, ap, subst}
 use mathlib.Core.List.{List, [], ◌∷◌}
+use Rattle.std.proofs.Common.{Option, Some, None, Result, Ok, Err}
 use native.Mathlib.Omega.{arith}
 use lib.ListN.{length}
 use Rattle.laws.specs.Sequence.{padded}
 use Rattle.laws.proofs.Sequence.{take_padded}
 use Rattle.rules.specs.Calls.{job as job_call}
-use Rattle.journal.specs.declared.Read.{Read}
+use Rattle.journal.specs.declared.Whole.{Whole}
+use Rattle.journal.specs.declared.Unreadable.{Unreadable}
 use Rattle.journal.specs.declared.Reading.{Reading}
 use Rattle.journal.specs.Records.{Event, name, job, pick, report, Close, end, refused, Found, event, closed, read_at}
 use Rattle.journal.specs.Journals.{Journal, then_read, journal_from, journal_of}
-use Rattle.journal.specs.Told.{record_of, answer_of, destinations_of, reading_of}
+use Rattle.journal.specs.Told.{record_of, Fault, answer_of, destinations_of, ReadingOf}
+use Rattle.journal.specs.Told as reading
 use Rattle.journal.proofs.Extents.{Ends, read_ends, record_ends, read_past}
 use Rattle.journal.specs.Replays.{lent, call_of}
 use Rattle.playing.specs.Plays.{call_told}
 
 -- What stands there, by the answer's case: a record tells the call that it makes.
-abbrev pub Tells : Found → List ℕ → Read → Type 0
-Tells f dests (Read.Whole what next) = (e : Event) × (f ≡ event e next) × (call_told what dests ≡ call_of e)
-Tells f dests Read.End = f ≡ closed end
-Tells f dests (Read.Refused k offset) = f ≡ closed (refused k offset)
+abbrev pub Tells : Found → List ℕ → Result (Option Whole) Fault → Type 0
+Tells f dests (Ok (Some w)) = (e : Event) × (f ≡ event e w.next) × (call_told w.what dests ≡ call_of e)
+Tells f dests (Ok None) = f ≡ closed end
+Tells f dests (Err u) = f ≡ closed (refused u.number u.offset)
 
 tells : (f : Found) → Tells f (padded 256 (destinations_of f)) (answer_of f)
 unfolding answer_of record_of destinations_of call_told call_of
@@ -31,11 +34,10 @@ tells (event (report clock e ticket outcome) next) = (report clock e ticket outc
 tells (closed end) = refl
 tells (closed (refused k offset)) = refl
 
-pub told : (f : Found) {r : Reading} {a : Read} → r ≡ reading_of f → r.answer ≡ a → Tells f r.destinations a
-unfolding reading_of
+pub told : (f : Found) {r : Reading} {a : Result (Option Whole) Unreadable} → ReadingOf f r → r.answer ≡ a → Tells f r.destinations (reading.told a)
 told f {r} h e =
-    subst (Tells f r.destinations) (sym (ap (λ x. x.answer) h) ∙ e)
-    (subst (λ l. Tells f l (answer_of f)) (sym (ap (λ x. x.destinations) h)) (tells f))
+    subst (Tells f r.destinations) (sym h.answer ∙ ap reading.told e)
+    (subst (λ l. Tells f l (answer_of f)) (sym h.destinations) (tells f))
 
 -- The journal from an offset on, with as many records allowed as it has bytes.
 module _ (bytes : List ℕ) (at : ℕ) where

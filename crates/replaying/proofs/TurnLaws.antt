@@ -95,13 +95,13 @@ module _ {bytes entry : List ℕ} {budget : ℕ} {state : State} {used at n : �
       }
 
   -- the budget ends it: of the journal so many records are played, and nothing is put behind
-  pub full : budget ≤ used → Ended bytes entry budget state used n out
+  pub full : budget ≤ used → Ended bytes entry budget state budget n out
   unfolding state_after played_text events_used count_used calls_used close_used close_line when◌then◌else◌
   full h =
       let last : length p.done ≡ budget = omega (arith, h, p.within, p.count) in
       let most : budget ≤ length (journal_of bytes).events = rw (p.events, length-append) (omega (arith, last)) in
       let taken : take budget (journal_of bytes).events ≡ p.done = ap (take budget) p.events ∙ take_at p.done _ budget last in
-      (rw taken p.reached, (rw taken p.count, rw (taken, le-leb budget _ most, append-nil) p.put))
+      (rw taken p.reached, (rw taken (sym last), rw (taken, le-leb budget _ most, append-nil) p.put))
 
   -- it closes: all its records are played, and what closes it is put behind
   pub closes :

@@ -6,7 +6,7 @@ use native.Mathlib.Nat.{le_trans}
 use lib.ListN.{length, take}
 use Rattle.rules.specs.declared.Setup.{Setup}
 use Rattle.rules.specs.declared.State.{State}
-use Rattle.rules.specs.declared.SetupReply.{SetupReply}
+use Rattle.rules.specs.declared.HandedBack.{HandedBack}
 use Rattle.rules.specs.Setup.{fresh_state}
 use Rattle.rules.specs.Calls.{Call, setup_reply}
 use Rattle.rules.specs.Gave.{SetupKept}
@@ -23,7 +23,7 @@ use Rattle.replaying.proofs.JournalLaws.{events_few}
 use Rattle.replaying.proofs.TurnLaws.{Ended}
 
 -- the set-up is accepted
-pub fresh : {u : Setup} (r : SetupReply) → u ≡ replay_setup → SetupKept u r → r.state ≡ fresh_state replay_setup
+pub fresh : {u : Setup} (r : HandedBack (Unit {0})) → u ≡ replay_setup → SetupKept u r → r.state ≡ fresh_state replay_setup
 fresh r h kept = ap (λ x. x.state) kept.0 ∙ ap (λ u. (setup_reply u).state) h ∙ start_is replay_setup in_range
 
 pub fits : {s : State} (calls : List Call) → s ≡ state_after replay_setup calls → BoardFits s

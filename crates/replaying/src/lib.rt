@@ -3,6 +3,7 @@
 
 ghost use Rattle.std.specs.Prelude.{◌+◌, ◌*◌, ◌≤◌, ◌≡◌, length, take};
 ghost use Rattle.rules.specs.Setup.{fresh_state};
+ghost use Rattle.rules.specs.Answers.{refusal_number};
 ghost use Rattle.rules.specs.History.{state_after};
 ghost use Rattle.lines.specs.Texts.{Put};
 ghost use Rattle.journal.specs.Records.{refused};
@@ -10,13 +11,13 @@ ghost use Rattle.journal.specs.Journals.{journal_of};
 ghost use Rattle.journal.specs.Replays.{count_used, calls_used};
 ghost use Rattle.replaying.specs.Replay.{BoardFits, replay_setup, close_line, played_text, end_text, replay_text};
 
-use journal::Read;
+use journal::Unreadable;
 use lines::answer;
 use lines::text::at_most;
 use playing::play;
 use playing::printing::put_line;
 use reader::read_at;
-use rules::{BoardAnswer, Feedback, Settings, Setup, State};
+use rules::{Feedback, Settings, Setup, State};
 
 // How many records were used, and how many bytes of text stand in the lent buffer.
 #[derive(Drop)]
@@ -35,11 +36,10 @@ pub fn replay(journal: &[u8], budget: u64, out: &mut [u8]) -> Replayed
 {
     let r = scheduler::set_up(setup());
     let p = play_all(r.state, journal, budget, out);
-    let used = p.used;
-    let n = put_end(out, p.length, used, p.state);
+    let length = put_end(out, p.length, p.used, p.state);
     Replayed {
-        used: used,
-        length: n,
+        used: p.used,
+        length,
     }
 }
 
@@ -47,11 +47,11 @@ pub fn replay(journal: &[u8], budget: u64, out: &mut [u8]) -> Replayed
 fn setup() -> Setup
     ensures { result ≡ replay_setup }
 {
-    let f = Feedback {
+    let per_window = Feedback {
         percent: 100,
         form: 1,
     };
-    let g = Settings {
+    let settings = Settings {
         agents: 20,
         cost: 5,
         loan: 3,
@@ -59,14 +59,14 @@ fn setup() -> Setup
         minimum: 3,
         limit: 20,
         initial: 5,
-        positive: f,
-        negative: f,
+        positive: per_window,
+        negative: per_window,
         cohortlimit: 1,
         suspension: 300,
     };
     Setup {
         transports: 4,
-        settings: [g; 4],
+        settings: [settings; 4],
         destinations: 32,
         home: [
             0, 0, 0, 0, 0, 0, 0, 0, 1, 1, 1, 1, 1, 1, 1, 1, 2, 2, 2, 2, 2, 2, 2, 2, 3, 3, 3, 3, 3,
@@ -91,50 +91,46 @@ fn play_all(start: State, journal: &[u8], budget: u64, out: &mut [u8]) -> Standi
     ensures text { Put (played_text (journal_of journal.now) budget) out.old 0 out.new result.length }
 {
     let mut state = start;
-    let mut used: u64 = 0;
-    let mut at: usize = 0;
-    let mut length: usize = 0;
-    while used < budget {
+    let mut at = 0;
+    let mut length = 0;
+    for used in 0..budget {
         let r = read_at(journal, at);
-        let answer = r.answer;
-        match answer {
-            Read::End => {
-                return stand(state, used, length);
-            }
-            Read::Refused { number, offset } => {
-                let n = put_refused(out, length, number, offset);
+        match r.answer {
+            Err(unreadable) => {
+                let n = put_refused(out, length, unreadable);
                 return stand(state, used, n);
             }
-            Read::Whole { what, next } => {
-                let dests = r.destinations;
-                let p = play(state, what, &dests, out, length);
-                length = p.length;
-                state = p.state;
-                used += 1;
-                at = next;
-            }
+            Ok(found) => match found {
+                None => return stand(state, used, length),
+                Some(whole) => {
+                    let p = play(state, whole.what, &r.destinations, out, length);
+                    length = p.length;
+                    state = p.state;
+                    at = whole.next;
+                }
+            },
         }
     }
-    stand(state, used, length)
+    stand(state, budget, length)
 }
 
-fn stand(s: State, used: u64, n: usize) -> Standing
-    ensures { (result.state ≡ s) × (result.used ≡ used) × (result.length ≡ n) }
+fn stand(state: State, used: u64, length: usize) -> Standing
+    ensures { (result.state ≡ state) × (result.used ≡ used) × (result.length ≡ length) }
 {
     Standing {
-        state: s,
-        used: used,
-        length: n,
+        state,
+        used,
+        length,
     }
 }
 
 // A refused record: its number and its offset.
-fn put_refused(out: &mut [u8], at: usize, number: u8, offset: usize) -> usize
-    ensures { Put (close_line (refused number offset)) out.old at out.new result }
+fn put_refused(out: &mut [u8], at: usize, u: Unreadable) -> usize
+    ensures { Put (close_line (refused (refusal_number u.refusal) u.offset)) out.old at out.new result }
 {
-    let p = answer::put_decimal(out, at, number as u64);
-    let q = answer::put_number(out, p, offset as u64);
-    answer::put_byte(out, q, 10)
+    let p = answer::put_decimal(out, at, u64::from(u.refusal.number()));
+    let q = answer::put_number(out, p, u.offset as u64);
+    answer::put_byte(out, q, b'\n')
 }
 
 // The end: how many records were used, and the board text.
@@ -144,12 +140,8 @@ fn put_end(out: &mut [u8], at: usize, used: u64, s: State) -> usize
 {
     let mut space = [0u8; 4096];
     let p = put_line(out, at, used);
-    let a = scheduler::board(s, &mut space);
-    match a {
-        BoardAnswer::Refused(_) => p,
-        BoardAnswer::Written(n) => {
-            let many = at_most(n, 4096);
-            answer::put(out, p, &space[..many])
-        }
+    match scheduler::board(s, &mut space) {
+        Err(_) => p,
+        Ok(n) => answer::put(out, p, &space[..at_most(n, 4096)]),
     }
 }

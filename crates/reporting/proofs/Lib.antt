@@ -1,2 +1,3 @@
+pub mod Off
 pub mod Stayers
 pub mod ReportLaws

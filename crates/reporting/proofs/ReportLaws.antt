@@ -31,6 +31,7 @@ use Rattle.rules.specs.Windows.{move_number, stepped, woken}
 use Rattle.rules.specs.Reporting.{one_less_busy, reported_step, is_death, is_put_off, put_off_entries, put_off_of, kind_after}
 use Rattle.rules.specs.Reporting.{settled, stays, parent_after, departed, reported_at, reporting}
 use Rattle.rules.specs.Calls.{Reply, granted, written, reporting_reply}
+use Rattle.std.specs.Bool.{then_some}
 use Rattle.laws.specs.Bools.{when◌then◌else◌}
 use Rattle.laws.specs.Chain.{first_along}
 use Rattle.rules.proofs.Shape.{Shaped, present_length, dropped_length, present_below}
@@ -44,6 +45,7 @@ use Rattle.charging.specs.Links.{leads_inside}
 use Rattle.charging.proofs.Leads.{leads_present}
 use Rattle.rules.proofs.KeptPreempting.{parent_present}
 use Rattle.settling.specs.Settling.{CanPutOff, PutOff}
+use Rattle.reporting.proofs.Off.{Off, off_of}
 use Rattle.leaving.specs.Leaving.{stays_at, adopted_at}
 use Rattle.rules.proofs.Accepted.{ReportAccepted}
 use Rattle.reporting.proofs.Stayers.{destination_below}
@@ -174,17 +176,14 @@ module _ (s : State) (clock e : ℕ) (outcome : Outcome) (shape : Shaped s) wher
   ]
 
   module _ {list : List ℕ} {ds : List Destination} {step : StepAnswer} {died : Bool} {kind freed dropped written' : List ℕ} {n : ℕ} {stay : List Bool}
-      {adopted counts' links' : List ℕ} {marks' : List Bool} {queue arrivals : JobList}
+      {adopted : List ℕ} {queue arrivals : JobList}
       (woke : ds ≡ (woken s clock).destinations)
       (answered : step ≡ from_health (get_or ds (destination_of s e) zero_destination).health)
       (dying : died ≡ is_death step.moved)
-      (put : PutOff died (destination_of s e) s.entries.kind s.entries.job s.entries.destination s.jobs.dropped list kind dropped written' n)
+      (put : PutOff (then_some died (destination_of s e)) s.entries.kind s.entries.job s.entries.destination s.jobs.dropped list kind dropped written' n)
       (free : freed ≡ set kind e 0)
       (stayed : stay ≡ table_to (stays_at freed s.entries.job s.jobs.present 512) 32)
       (linked : adopted ≡ table_to (adopted_at stay s.jobs.parent) 32)
-      (counts : counts' ≡ dropped)
-      (links : links' ≡ adopted)
-      (marks : marks' ≡ stay)
       (queued : queue ≡ listed (keep (λ j. get_or stay j false) (queue_of s (transport_of s (destination_of s e)))))
       (arrived : arrivals ≡ listed (keep (λ j. get_or stay j false) (list_of s.arrivals))) where
     step_is : step ≡ step'
@@ -194,8 +193,10 @@ module _ (s : State) (clock e : ℕ) (outcome : Outcome) (shape : Shaped s) wher
     died_is : died ≡ died'
     died_is = dying ∙ ap (λ x. is_death x.moved) step_is
 
-    was : PutOff died' (destination_of s e) s.entries.kind s.entries.job s.entries.destination s.jobs.dropped list kind dropped written' n
-    was = subst (λ b. PutOff b (destination_of s e) s.entries.kind s.entries.job s.entries.destination s.jobs.dropped list kind dropped written' n) died_is put
+    was : Off died' (destination_of s e) s.entries.kind s.entries.job s.entries.destination s.jobs.dropped list kind dropped written' n
+    was =
+        let own = off_of died (destination_of s e) s.entries.kind s.entries.job s.entries.destination s.jobs.dropped list kind dropped written' n put in
+        subst (λ b. Off b (destination_of s e) s.entries.kind s.entries.job s.entries.destination s.jobs.dropped list kind dropped written' n) died_is own
 
     kind_is : freed ≡ Left.entries.kind
     unfolding settled kind_after is_put_off woken
@@ -235,9 +236,9 @@ module _ (s : State) (clock e : ℕ) (outcome : Outcome) (shape : Shaped s) wher
       state =
           with_parts s clock s.ticket s.turn (set ds (destination_of s e) (record { health = step.health }))
           (one_less_busy s.busy (transport_of s (destination_of s e)) (destination_of s e)) (set s.queues (transport_of s (destination_of s e)) queue) arrivals
-          (on_present (λ l. marks') (on_parent (λ l. links') (on_dropped (λ l. counts') s.jobs)))
+          (on_present (λ l. stay) (on_parent (λ l. adopted) (on_dropped (λ l. dropped) s.jobs)))
           (with_kinds s.entries freed s.entries.ticket);
       buffer = written';
     }) (reporting_reply (reporting (woken s clock) clock e (destination_of s e) outcome) list)
     unfolding reporting_reply reporting reported_at departed settled woken
-    report_is = rw (counts, links, marks, number_is, list_is, woke, step_is, queue_is, arrivals_is, dropped_is, stay_is, adopted_is, kind_is) refl
+    report_is = rw (number_is, list_is, woke, step_is, queue_is, arrivals_is, dropped_is, stay_is, adopted_is, kind_is) refl

@@ -20,7 +20,9 @@ use Rattle.rules.specs.SoundFacts.{Sound}
 use Rattle.rules.proofs.EntryTests.{busy_used, waiting_used}
 use Rattle.rules.proofs.Soundness.{sound_facts}
 use Rattle.counting.specs.Counting.{counts_to, Paired}
-use Rattle.settling.specs.Settling.{put_off_at, PutOff}
+use Rattle.std.specs.Bool.{then_some}
+use Rattle.std.specs.Option.{MatchOption}
+use Rattle.reporting.proofs.Off.{off_at, Off}
 use Rattle.leaving.specs.Leaving.{used_at, elsewhere, emptied, OthersStay}
 use Rattle.rules.proofs.Accepted.{ReportAccepted}
 
@@ -32,11 +34,11 @@ module _ (s : State) (clock e ticket : ℕ) (lent : List ℕ) (can : ReportAccep
   destination_below = omega (arith, (facts.entries e can.entry (busy_used s e can.busy)).destination, facts.setup.destinations)
 
   module _ {died : Bool} {n : ℕ} {list kind freed dropped list' : List ℕ}
-      (put : PutOff died (destination_of s e) s.entries.kind s.entries.job s.entries.destination s.jobs.dropped list kind dropped list' n)
+      (put : Off died (destination_of s e) s.entries.kind s.entries.job s.entries.destination s.jobs.dropped list kind dropped list' n)
       (free : freed ≡ set kind e 0) where
     -- a used entry, not the one reported, that was not put off is used still
     used_still : (j i : ℕ) → i < max_entries → used_of s j i ≡ true → (i ≡ e → ⊥)
-        → put_off_at s.entries.kind s.entries.destination died (destination_of s e) i ≡ false → used_at freed s.entries.job j i ≡ true
+        → off_at s.entries.kind s.entries.destination died (destination_of s e) i ≡ false → used_at freed s.entries.job j i ≡ true
     unfolding used_of
     used_still j i l used other kept = rw same used
       where
@@ -45,7 +47,7 @@ module _ (s : State) (clock e ticket : ℕ) (lent : List ℕ) (can : ReportAccep
 
     -- an entry of job j that is used and not put off
     abbrev Kept : ℕ → Type 0
-    Kept j = (i : ℕ) × (i < max_entries) × (used_of s j i ≡ true) × (i ≡ e → ⊥) × (put_off_at s.entries.kind s.entries.destination died (destination_of s e) i ≡ false)
+    Kept j = (i : ℕ) × (i < max_entries) × (used_of s j i ≡ true) × (i ≡ e → ⊥) × (off_at s.entries.kind s.entries.destination died (destination_of s e) i ≡ false)
 
     stay_where : (these : ℕ → Bool) → ((j : ℕ) → j < max_jobs → these j ≡ false → any_to (used_of s j) max_entries ≡ true → Kept j)
         → OthersStay these freed s.entries.job s.jobs.present
@@ -125,3 +127,10 @@ module _ (s : State) (clock e ticket : ℕ) (lent : List ℕ) (can : ReportAccep
           (λ n. case_bool (ltb 0 (at pairs (32 * j + destination_of s e)) || eqb j (job_of s e))
           (λ t. true_not_false (and_both t (not_is_true n)) f)
           (λ g. kept_whole j l g some))
+
+      -- by whether the destination died
+      pub stay_asks : (died ≡ false → OthersStay (λ j. eqb j (job_of s e)) freed s.entries.job s.jobs.present) → (b : Bool) → b ≡ died
+          → MatchOption (then_some b (destination_of s e)) (OthersStay (λ j. eqb j (job_of s e)) freed s.entries.job s.jobs.present)
+          (λ d. (d < 32) × OthersStay (emptied pairs d (job_of s e)) freed s.entries.job s.jobs.present)
+      stay_asks live true h = (destination_below, others_stay)
+      stay_asks live false h = live (sym h)

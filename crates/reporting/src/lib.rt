@@ -4,28 +4,9 @@
 ghost use Rattle.std.specs.Prelude.{◌≡◌};
 ghost use Rattle.rules.specs.Calls.{report_reply};
 ghost use Rattle.rules.specs.Gave.{report_gave};
+ghost use Rattle.rules.proofs.Shape.{Shaped};
 
-use rules::{Destination, Outcome, ReportAnswer, ReportReply, State};
-
-// A column of the jobs, written anew in the working copy.
-
-fn put_counts(column: &mut [u16; 32], by: [u16; 32])
-    ensures { column.new ≡ by }
-{
-    *column = by;
-}
-
-fn put_links(column: &mut [u8; 32], by: [u8; 32])
-    ensures { column.new ≡ by }
-{
-    *column = by;
-}
-
-fn put_marks(column: &mut [bool; 32], by: [bool; 32])
-    ensures { column.new ≡ by }
-{
-    *column = by;
-}
+use rules::{Destination, HandedBack, Outcome, Refusal, ReportAnswer, State};
 
 // The outcome of a delivery, by entry and ticket. Entries that it puts off go to the lent list; places past them stay.
 pub fn report(
@@ -35,105 +16,92 @@ pub fn report(
     ticket: u64,
     outcome: Outcome,
     list: &mut [u16],
-) -> ReportReply
+) -> HandedBack<ReportAnswer>
     ensures { report_gave result list.new ≡ report_reply s now entry ticket outcome list.old }
 {
-    let mut next = s;
-    let mut pairs = [0u16; 1024];
-    if !soundness::sound_with(next, &mut pairs) {
-        return ReportReply {
-            answer: ReportAnswer::Refused(1),
-            state: s,
-        };
+    let mut state = s;
+    let answer = settle(&mut state, now, entry, ticket, outcome, list);
+    HandedBack { answer, state }
+}
+
+// The same of a state in its place: a refusal leaves it as it came. That its arrays are as long as their types say, the caller knows, who has it by value.
+fn settle(
+    state: &mut State,
+    now: u64,
+    entry: u64,
+    ticket: u64,
+    outcome: Outcome,
+    list: &mut [u16],
+) -> Result<ReportAnswer, Refusal>
+    requires { Shaped state.old }
+    ensures { report_gave (record { answer = result; state = state.new }) list.new ≡ report_reply state.old now entry ticket outcome list.old }
+{
+    let mut pairs = [0; 1024];
+    if !soundness::sound_with(*state, &mut pairs) {
+        return Err(Refusal::Unsound);
     }
-    if waking::bad_clock(s.clock, now) {
-        return ReportReply {
-            answer: ReportAnswer::Refused(3),
-            state: s,
-        };
+    if waking::bad_clock(state.clock, now) {
+        return Err(Refusal::Clock);
     }
-    let k = settling::refusal(
-        &next.entries.kind,
-        &next.entries.ticket,
+    settling::refusal(
+        &state.entries.kind,
+        &state.entries.ticket,
         entry,
         ticket,
         list.len(),
-    );
-    if k != 0 {
-        return ReportReply {
-            answer: ReportAnswer::Refused(k),
-            state: s,
-        };
-    }
-    next.clock = now as u32;
+    )?;
+    state.clock = now as u32;
 
     // the destination's step
-    let settings = s.setup.settings;
-    let old = s.destinations;
-    let mut ds = waking::wake(old, &next.setup.home, settings, s.setup.destinations, now);
+    let mut ds = waking::wake(
+        state.destinations,
+        &state.setup.home,
+        state.setup.settings,
+        state.setup.destinations,
+        now,
+    );
     let e = entry as usize;
-    let job = s.entries.job;
-    let destination = s.entries.destination;
-    let to = destination[e];
-    let of = job[e];
+    let to = state.entries.destination[e];
+    let of = state.entries.job[e];
     let d = to as usize;
-    let home = s.setup.home;
-    let t = home[d] as usize;
-    let g = settings[t];
-    let x = ds[d];
-    let found = x.health;
-    let mut busy = s.busy;
-    let many = busy.destination[d] as u64;
-    let step = window::step(g, many, now, found, outcome);
-    let left = step.health;
-    ds[d] = Destination { health: left };
-    next.destinations = ds;
+    let t = state.setup.home[d] as usize;
+    let found = ds[d].health;
+    let busy = state.busy.destination[d] as u64;
+    let step = window::step(state.setup.settings[t], busy, now, found, outcome);
+    ds[d] = Destination {
+        health: step.health,
+    };
+    state.destinations = ds;
 
     // the entry is free, and those that wait are put off where the destination died
-    busy.transport[t] -= 1;
-    busy.destination[d] -= 1;
-    next.busy = busy;
-    let moved = step.moved;
-    let died = settling::is_death(moved);
-    let mut dropped = s.jobs.dropped;
-    let count = settling::put_off(
-        &mut next.entries.kind,
-        &job,
-        &destination,
-        &mut dropped,
+    state.busy.transport[t] -= 1;
+    state.busy.destination[d] -= 1;
+    let dead = settling::is_death(step.moved).then_some(to);
+    let putoff = settling::put_off(
+        &mut state.entries.kind,
+        &state.entries.job,
+        &state.entries.destination,
+        &mut state.jobs.dropped,
         list,
-        died,
-        to,
+        dead,
     );
-    columns::put_kind(&mut next.entries.kind, e, 0);
+    state.entries.kind[e] = 0;
 
     // those without an entry leave
-    let present = s.jobs.present;
-    let parent = s.jobs.parent;
     let stays = leaving::staying(
-        &next.entries.kind,
-        &next.entries.job,
+        &state.entries.kind,
+        &state.entries.job,
         &pairs,
-        present,
-        died,
-        to,
+        state.jobs.present,
+        dead,
         of,
     );
-    let adopted = leaving::adopt(&stays, &parent);
-    put_counts(&mut next.jobs.dropped, dropped);
-    put_links(&mut next.jobs.parent, adopted);
-    put_marks(&mut next.jobs.present, stays);
-    let q = next.queues[t];
-    let queue = lists::keep(q, &stays);
-    next.queues[t] = queue;
-    let a = s.arrivals;
-    let arrivals = lists::keep(a, &stays);
-    next.arrivals = arrivals;
-    ReportReply {
-        answer: ReportAnswer::Reported {
-            putoff: count,
-            moved: moved,
-        },
-        state: next,
-    }
+    state.jobs.parent = leaving::adopt(&stays, &state.jobs.parent);
+    state.jobs.present = stays;
+    state.queues[t] = lists::keep(state.queues[t], &stays);
+    state.arrivals = lists::keep(state.arrivals, &stays);
+    Ok(ReportAnswer {
+        putoff,
+        moved: step.moved,
+    })
 }

@@ -1,8 +1,7 @@
 -- Request A8: "Reading what was written gives the same records, and writing what was read gives the same bytes, for every journal that the reader
 -- accepts." Over lists of records of any length.
-use Rattle.std.specs.Prelude.{ℕ, ◌≤◌, ◌≡◌, Bool, true, ◌&&◌, List, [], ◌∷◌, ◌++◌, length, take, ltb}
+use Rattle.std.specs.Prelude.{ℕ, ◌≤◌, ◌≡◌, Bool, true, ◌&&◌, List, [], ◌∷◌, ◌++◌, length, take, Result, Ok, Err, ltb}
 use Rattle.laws.specs.Sequence.{every_in}
-use Rattle.journal.specs.declared.Written.{Written}
 use Rattle.journal.specs.Records.{Event, end}
 use Rattle.journal.specs.Journals.{journal_of}
 use Rattle.journal.specs.Writes.{journal_bytes, writable, Writing, writing_of}
@@ -21,9 +20,9 @@ pub record Book : Type 0 where
   pub used : ℕ
   pub taken : List Event
 
-unfoldable pub on_answer : Book → Event → List ℕ → Written → Book
-on_answer b e buffer (Written.Used n) = record { buffer = buffer; used = n; taken = b.taken ++ (e ∷ []) }
-on_answer b e buffer (Written.Refused k) = record { buffer = buffer; used = b.used; taken = b.taken }
+unfoldable pub on_answer : Book → Event → List ℕ → Result ℕ ℕ → Book
+on_answer b e buffer (Ok n) = record { buffer = buffer; used = n; taken = b.taken ++ (e ∷ []) }
+on_answer b e buffer (Err k) = record { buffer = buffer; used = b.used; taken = b.taken }
 
 abbrev pub on_writing : Book → Event → Writing → Book
 on_writing b e w = on_answer b e w.buffer w.answer

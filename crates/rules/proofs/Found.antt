@@ -7,8 +7,9 @@ use lib.ListN.{length}
 use Rattle.laws.specs.Bools.{when◌then◌else◌}
 use Rattle.laws.specs.Range.{any_to}
 use Rattle.rules.specs.declared.State.{State}
+use Rattle.std.specs.Prelude.{Option, Some, None, Result, Ok, Err}
+use Rattle.rules.specs.declared.Refusal.{Refusal}
 use Rattle.rules.specs.declared.PickAnswer.{PickAnswer}
-use Rattle.rules.specs.declared.PickAnswer.TheVariants
 use Rattle.rules.specs.Sizes.{max_entries}
 use Rattle.rules.specs.Windows.{woken}
 use Rattle.rules.specs.Picking.{eligible, finds}
@@ -52,11 +53,11 @@ module _ (s : State) (now : ℕ) (shape : Shaped s) where
   some true h = omega (arith, h)
   some false h = omega (arith, h)
 
-  pub finds_exactly : (a : PickAnswer) → pick_says a ≡ (pick_reply s now).says → FindsExactly s now a
-  finds_exactly (PickAnswer.Refused k) h = λ e. some _ (ap (λ x. length x.values) h ∙ values e)
-  finds_exactly (PickAnswer.Picked j e ticket passed) h =
+  pub finds_exactly : (a : Result (Option PickAnswer) Refusal) → pick_says a ≡ (pick_reply s now).says → FindsExactly s now a
+  finds_exactly (Err k) h = λ e. some _ (ap (λ x. length x.values) h ∙ values e)
+  finds_exactly (Ok (Some a)) h =
       let accepted = sym (ap (λ x. x.refusal) h ∙ refusal_answered s (Call.pick now)) in
       (accepted, four _ (ap (λ x. length x.values) h ∙ values accepted))
-  finds_exactly PickAnswer.Nothing h =
+  finds_exactly (Ok None) h =
       let accepted = sym (ap (λ x. x.refusal) h ∙ refusal_answered s (Call.pick now)) in
       (accepted, one _ (ap (λ x. length x.values) h ∙ values accepted))

@@ -2,6 +2,7 @@
 
 -- each column has as many places as its array
 pub mod Shape
+pub mod Shapes
 -- settings, a set-up and a live destination in their ranges
 pub mod RangeFacts
 -- the tests on entries

@@ -10,7 +10,7 @@ use native.Mathlib.Omega.{arith}
 use lib.ListN.{length}
 use lib.Dec.{eqb}
 use borrow.Author.Tests.{eqb-true, eq-eqb, ne_eqb}
-use Rattle.laws.specs.Bools.{when◌then◌else◌, one}
+use Rattle.laws.specs.Bools.{when◌then◌else◌}
 use Rattle.laws.specs.Sequence.{times_in}
 use Rattle.laws.proofs.Bools.{true_not_false, case_bool, one_true, one_false, if_true, if_false}
 use Rattle.laws.proofs.Newest.{newest_is, set_field}

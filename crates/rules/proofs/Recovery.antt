@@ -8,7 +8,6 @@ use native.Mathlib.Omega.{arith}
 use lib.ListN.{get_or}
 use lib.Dec.{eqb, ltb, leb}
 use borrow.Author.Tests.{eqb-true, leb-true, leb-false, eq-eqb}
-use Rattle.laws.specs.Bools.{one}
 use Rattle.laws.proofs.Bools.{true_not_false, case_bool, false_of, and_left, and_right, if_cases, if_true, if_false, one_true, one_false, one_zero}
 use Rattle.laws.proofs.Joined.{and_3}
 use Rattle.laws.proofs.Fractions.{rounded_up_reaches, rounded_up_least, rounded_up_le}

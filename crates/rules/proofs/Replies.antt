@@ -8,6 +8,9 @@ use Rattle.laws.specs.Bools.{when◌then◌else◌}
 use Rattle.laws.proofs.Bools.{true_not_false}
 use Rattle.rules.specs.declared.Setup.{Setup}
 use Rattle.rules.specs.declared.State.{State}
+use Rattle.rules.specs.declared.Refusal.{Refusal}
+use Rattle.rules.specs.declared.Refusal.TheVariants
+use Rattle.rules.specs.Answers.{refusal_number}
 use Rattle.rules.specs.Setup.{setup_in_range, fresh_state}
 use Rattle.rules.specs.Sound.{sound}
 use Rattle.rules.specs.Refusals.{bad_clock, setup_refusal, job_refusal, pick_refusal, report_refusal, ask_refusal, board_refusal}
@@ -53,10 +56,30 @@ refusal_clock s (Call.report now e ticket outcome list) h b = rw (h, b) refl
 refusal_clock s (Call.ask j) h b = true_not_false b refl
 refusal_clock s (Call.board buffer) h b = true_not_false b refl
 
+-- each refusal's number is one
+pub refusal_some : (k : Refusal) → refusal_number k ≡ 0 → ⊥
+refusal_some Refusal.Unsound h = suc-ne-zero 0 h
+refusal_some Refusal.SetupOutOfRange h = suc-ne-zero 1 h
+refusal_some Refusal.Clock h = suc-ne-zero 2 h
+refusal_some Refusal.Transport h = suc-ne-zero 3 h
+refusal_some Refusal.EntryCount h = suc-ne-zero 4 h
+refusal_some Refusal.Destination h = suc-ne-zero 5 h
+refusal_some Refusal.JobNumbers h = suc-ne-zero 6 h
+refusal_some Refusal.EntryPlaces h = suc-ne-zero 7 h
+refusal_some Refusal.Entry h = suc-ne-zero 8 h
+refusal_some Refusal.Room h = suc-ne-zero 9 h
+refusal_some Refusal.Job h = suc-ne-zero 10 h
+refusal_some Refusal.CutShort h = suc-ne-zero 11 h
+refusal_some Refusal.Number h = suc-ne-zero 12 h
+refusal_some Refusal.OutOfRange h = suc-ne-zero 13 h
+
 module _ (s : State) (call : Call) where
   pub reply_refused : (k : ℕ) → k ≡ refusal_of s call → (k ≡ 0 → ⊥) → record { says = refused k; state = s; buffer = lent_to call } ≡ reply_to s call
   unfolding reply_to
   reply_refused k e h = refusing k (refusal_of s call) s (lent_to call) (accepted s call) e h
+
+  pub reply_refusal : (k : Refusal) → refusal_number k ≡ refusal_of s call → record { says = refused (refusal_number k); state = s; buffer = lent_to call } ≡ reply_to s call
+  reply_refusal k e = reply_refused (refusal_number k) e (refusal_some k)
 
   pub reply_unsound : sound s ≡ false → record { says = refused 1; state = s; buffer = lent_to call } ≡ reply_to s call
   reply_unsound h = reply_refused 1 (sym (refusal_unsound s call h)) (suc-ne-zero 0)

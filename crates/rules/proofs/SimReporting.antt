@@ -14,7 +14,7 @@ use Rattle.laws.proofs.Bools.{true_not_false, case_bool, false_of, bool_same, if
 use Rattle.laws.proofs.Chain.{first_along_enough}
 use Rattle.laws.proofs.Onto.{ends_near, first_near, near_same}
 use Rattle.laws.proofs.Order.{before_kept}
-use Rattle.ceiling.specs.Columns.{Columns, sold}
+use Rattle.ceiling.specs.Columns.{Columns}
 use Rattle.ceiling.specs.Steps.{lessen}
 use Rattle.ceiling.proofs.Ceilings.{names_end}
 use Rattle.ceiling.proofs.Invariant.{inv_lessen, inv_leave}

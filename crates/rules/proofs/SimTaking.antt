@@ -21,14 +21,14 @@ use Rattle.laws.proofs.Newest.{get_or_old, get_or_new, length_new}
 use Rattle.laws.proofs.Sequence.{holds_cases}
 use Rattle.laws.proofs.Chain.{first_along_zero, first_along_same, first_along_agree, first_along_enough, first_along_ok}
 use Rattle.laws.proofs.Order.{before_append_cases, before_left, before_right}
-use Rattle.ceiling.specs.Columns.{Columns, sold, of_transport}
+use Rattle.ceiling.specs.Columns.{Columns, of_transport}
 use Rattle.ceiling.specs.Steps.{add_row}
 use Rattle.ceiling.proofs.Forest.{sold_add, sold_add_new}
 use Rattle.ceiling.proofs.Ceilings.{names_end}
 use Rattle.ceiling.proofs.Invariant.{inv_add}
 use Rattle.rules.specs.declared.Setup.{Setup}
 use Rattle.rules.specs.declared.State.{State}
-use Rattle.rules.specs.State.{at, queue_of, is_present}
+use Rattle.rules.specs.State.{queue_of, is_present}
 use Rattle.rules.specs.SoundFacts.{Sound}
 use Rattle.rules.specs.Taking.{taken}
 use Rattle.rules.specs.Tally.{Row, Tally, no_row, row_at, row_of, new_row, with_job}

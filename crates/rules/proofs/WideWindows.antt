@@ -13,7 +13,7 @@ use Rattle.laws.proofs.Joined.{and_3}
 use Rattle.laws.proofs.All.{all_at}
 use Rattle.rules.specs.declared.Settings.{Settings}
 use Rattle.rules.specs.declared.Sums.{Sums}
-use Rattle.rules.specs.declared.Health.TheVariants.{Live, Dead}
+use Rattle.rules.specs.declared.Health.TheVariants.{Live}
 use Rattle.rules.specs.declared.Outcome.{Outcome}
 use Rattle.rules.specs.declared.Outcome.TheVariants.{Success, Failure}
 use Rattle.rules.specs.Sizes.{U}

@@ -17,7 +17,7 @@ use Rattle.rules.specs.declared.Outcome.TheVariants.{Success, Failure}
 use Rattle.rules.specs.Sizes.{U}
 use Rattle.rules.specs.Setup.{settings_in_range, first_state}
 use Rattle.rules.specs.SoundFacts.{LiveSound}
-use Rattle.rules.specs.Windows.{cohort_bound, root, feedback, cohort_share, is_dead_at, raised, lowered, live_after_success, after_success, live_after_failure}
+use Rattle.rules.specs.Windows.{cohort_bound, feedback, cohort_share, is_dead_at, raised, lowered, live_after_success, after_success, live_after_failure}
 use Rattle.rules.specs.Windows.{after_failure, after_report}
 use Rattle.rules.specs.WideWindows.{NeverAboveU}
 use Rattle.rules.proofs.RangeFacts.{windows_range}

@@ -5,7 +5,6 @@ use Rattle.laws.specs.Bools.{when◌then◌else◌}
 use Rattle.rules.specs.declared.Setup.{Setup}
 use Rattle.rules.specs.declared.State.{State}
 use Rattle.rules.specs.declared.Outcome.{Outcome}
-use Rattle.rules.specs.declared.Outcome.TheVariants
 use Rattle.rules.specs.State.{at, job_of, destination_of}
 use Rattle.rules.specs.Setup.{zero_state, fresh_state}
 use Rattle.rules.specs.Windows.{move_number, woken}

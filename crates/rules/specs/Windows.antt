@@ -16,7 +16,7 @@ use Rattle.rules.specs.declared.Outcome.TheVariants.{Success, Failure}
 use Rattle.rules.specs.declared.Move.{Move}
 use Rattle.rules.specs.declared.StepAnswer.{StepAnswer}
 use Rattle.rules.specs.Sizes.{U, max_destinations}
-use Rattle.rules.specs.State.{at, zero_destination, settings_in}
+use Rattle.rules.specs.State.{zero_destination, settings_in}
 use Rattle.rules.specs.Changed.{at_clock, on_destinations}
 use Rattle.rules.specs.Setup.{first_state}
 

@@ -1,6 +1,14 @@
 // The types of document 01: the set-up, the state, the answers, all by value. The rules over them are in specs/.
 #![tactic(auto)]
 
+ghost use Rattle.std.specs.Prelude.{◌≡◌, ◌≤◌};
+ghost use Rattle.rules.specs.State.{list_of};
+ghost use Rattle.rules.specs.Windows.{move_number};
+ghost use Rattle.rules.specs.Answers.{refusal_number, TellsOutcome};
+
+use std::error::Error;
+use std::fmt;
+
 // The parts that stand for 1 (`U` of specs/Sizes.antt).
 pub const U: u64 = 23_279_256_000;
 
@@ -71,6 +79,16 @@ pub struct JobList {
     pub count: u8,
 }
 
+impl JobList {
+    // The job numbers, in their order.
+    pub fn numbers(&self) -> &[u8]
+        requires { self.now.count ≤ 32 }
+        ensures { result.now ≡ list_of self.now }
+    {
+        &self.jobs[..usize::from(self.count)]
+    }
+}
+
 // The jobs, a column a field.
 #[derive(Clone, Copy)]
 pub struct Jobs {
@@ -119,21 +137,46 @@ pub struct State {
     pub entries: Entries,
 }
 
-#[derive(Clone, Copy)]
+// A delivery's outcome. Where it is told by a number, 0 is a success and 1 a failure: `outcome_number` of specs/Answers.antt.
+#[derive(Clone, Copy, PartialEq, Eq)]
 pub enum Outcome {
     Success,
     Failure,
 }
 
+// Any other number is refused, as a field out of its range is.
+impl TryFrom<u64> for Outcome {
+    type Error = Refusal;
+
+    ghost try_from_gives = { TellsOutcome };
+
+    fn try_from(number: u64) -> Result<Outcome, Refusal> {
+        match number {
+            0 => Ok(Outcome::Success),
+            1 => Ok(Outcome::Failure),
+            _ => Err(Refusal::OutOfRange),
+        }
+    }
+}
+
 // Why a destination's number moved in the step of a report. Which case it is, and each case's number: specs/Windows.antt. The words stand in
 // lines/specs/Names.antt.
-#[derive(Clone, Copy)]
+#[derive(Clone, Copy, PartialEq, Eq)]
 pub enum Move {
-    Unchanged,
-    Raised,
-    Lowered,
-    Dead,
-    Revived,
+    Unchanged = 0,
+    Raised = 1,
+    Lowered = 2,
+    Dead = 3,
+    Revived = 4,
+}
+
+impl Move {
+    #[tactic(auto, unfolding(crate::specs::Windows::move_number))]
+    pub fn number(self) -> u8
+        ensures { result ≡ move_number self }
+    {
+        self as u8
+    }
 }
 
 // What that step answers: the destination's health after it, and why its number moved.
@@ -143,74 +186,81 @@ pub struct StepAnswer {
     pub moved: Move,
 }
 
-// The answers. `Refused` holds the number of document 01's table.
+// Why a call is refused, with its number in the table of refusals: `refusal_number` of specs/Answers.antt.
+#[derive(Clone, Copy, Debug, PartialEq, Eq)]
+pub enum Refusal {
+    // the state is not sound
+    Unsound = 1,
+    // the set-up is out of the ranges
+    SetupOutOfRange = 2,
+    // the clock is earlier than the last accepted one, or above 2^32-1
+    Clock = 3,
+    // there is no such transport
+    Transport = 4,
+    // no entry, or more than 256
+    EntryCount = 5,
+    // a destination that does not exist or is another transport's
+    Destination = 6,
+    // no job number is free
+    JobNumbers = 7,
+    // too few entry places are free
+    EntryPlaces = 8,
+    // the entry and the ticket are not those of a busy entry
+    Entry = 9,
+    // too little room in a lent list or buffer
+    Room = 10,
+    // no such job
+    Job = 11,
+    // a record is cut short
+    CutShort = 12,
+    // a number of a record is too long or too large
+    Number = 13,
+    // a field of a record is out of its range
+    OutOfRange = 14,
+}
+
+impl Refusal {
+    pub fn number(self) -> u8
+        ensures { result ≡ refusal_number self }
+    {
+        self as u8
+    }
+}
+
+impl fmt::Display for Refusal {
+    fn fmt<W: fmt::Write>(&self, f: &mut fmt::Formatter<W>) -> fmt::Result {
+        write!(f, "{}", self.number())
+    }
+}
+
+impl Error for Refusal {}
+
+// What an accepted call answers. Asking answers the sum, the board text its length, a set-up nothing.
 
 #[derive(Clone, Copy)]
-pub enum SetupAnswer {
-    Refused(u8),
-    Accepted,
+pub struct JobAnswer {
+    // none where all entries were put off: no job came to be
+    pub job: Option<u8>,
+    pub putoff: u16,
 }
 
 #[derive(Clone, Copy)]
-pub enum JobAnswer {
-    Refused(u8),
-    Taken { job: u8, putoff: u16 },
-    // all entries were put off: no job came to be
-    PutOff(u16),
+pub struct PickAnswer {
+    pub job: u8,
+    pub entry: u16,
+    pub ticket: u32,
+    pub passed: u8,
 }
 
 #[derive(Clone, Copy)]
-pub enum PickAnswer {
-    Refused(u8),
-    Picked {
-        job: u8,
-        entry: u16,
-        ticket: u32,
-        passed: u8,
-    },
-    Nothing,
+pub struct ReportAnswer {
+    pub putoff: u16,
+    pub moved: Move,
 }
 
-#[derive(Clone, Copy)]
-pub enum ReportAnswer {
-    Refused(u8),
-    Reported { putoff: u16, moved: Move },
-}
-
-#[derive(Clone, Copy)]
-pub enum AskAnswer {
-    Refused(u8),
-    Overtakers(u32),
-}
-
-#[derive(Clone, Copy)]
-pub enum BoardAnswer {
-    Refused(u8),
-    Written(u64),
-}
-
-// An answer with the state that the call hands back.
-
+// What a call answers, and the state that it hands back.
 #[derive(Drop)]
-pub struct SetupReply {
-    pub answer: SetupAnswer,
-    pub state: State,
-}
-
-#[derive(Drop)]
-pub struct JobReply {
-    pub answer: JobAnswer,
-    pub state: State,
-}
-
-#[derive(Drop)]
-pub struct PickReply {
-    pub answer: PickAnswer,
-    pub state: State,
-}
-
-#[derive(Drop)]
-pub struct ReportReply {
-    pub answer: ReportAnswer,
+pub struct HandedBack<A> {
+    pub answer: Result<A, Refusal>,
     pub state: State,
 }

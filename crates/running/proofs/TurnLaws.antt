@@ -231,11 +231,3 @@ cancel i k = omega arith
 -- what is used of a slice is at most its length
 pub used : {m n k : ℕ} → m ≡ n → k ≤ n → k ≤ m
 used h l = omega (arith, h, l)
-
-pub end_range : (words : List ℕ) (answers lists texts e : ℕ) → e ≡ end_before words answers lists texts → (e ≡ 0 → ⊥) → (0 < e) × (e ≤ 4)
-end_range words answers lists texts e h z = (nonzero e z, rw h (end_most words answers lists texts))
-
--- the end under its number
-pub ran_as : {made e k : ℕ} {a l t : List ℕ} {r : Ran} → e ≡ k → record { calls = made; end = k; answers = a; lists = l; texts = t } ≡ r
-    → record { calls = made; end = e; answers = a; lists = l; texts = t } ≡ r
-ran_as {made} {a} {l} {t} h g = ap (λ k. record { calls = made; end = k; answers = a; lists = l; texts = t }) h ∙ g

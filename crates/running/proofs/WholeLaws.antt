@@ -7,8 +7,9 @@ use Rattle.laws.specs.Bools.{when◌then◌else◌}
 use Rattle.laws.proofs.Bools.{true_not_false}
 use Rattle.rules.specs.declared.Setup.{Setup}
 use Rattle.rules.specs.declared.State.{State}
-use Rattle.rules.specs.declared.SetupAnswer.{SetupAnswer}
-use Rattle.rules.specs.declared.SetupReply.{SetupReply}
+use Rattle.std.specs.Prelude.{Result}
+use Rattle.rules.specs.declared.Refusal.{Refusal}
+use Rattle.rules.specs.declared.HandedBack.{HandedBack}
 use Rattle.rules.specs.Setup.{setup_in_range, fresh_state}
 use Rattle.rules.specs.Calls.{setup_reply}
 use Rattle.rules.proofs.Demand3.{demand3, companions}
@@ -17,7 +18,7 @@ use Rattle.running.specs.WholeReply.{Ran, calls_read, ran_from, run_reply, Deman
 use Rattle.rules.proofs.Replies.{start_is}
 
 -- whether a set-up is in range, by the answer's case
-pub told : {x : Bool} (a b : SetupAnswer) → accepts a ≡ x → a ≡ b → x ≡ accepts b
+pub told : {x : Bool} (a b : Result (Unit {0}) Refusal) → accepts a ≡ x → a ≡ b → x ≡ accepts b
 told a b h e = sym h ∙ ap accepts e
 
 module _ (u : Setup) (words answers lists texts : List ℕ) where
@@ -29,7 +30,7 @@ module _ (u : Setup) (words answers lists texts : List ℕ) where
   run_refused h = (rw h refl, λ k. true_not_false k h)
 
   pub run_accepted :
-      (r : SetupReply) (x : Ran)
+      (r : HandedBack (Unit {0})) (x : Ran)
       → setup_in_range u ≡ true
       → setup_gave r ≡ setup_reply u
       → x ≡ ran_from r.state (calls_read words answers lists texts) answers lists texts

@@ -8,8 +8,7 @@ use Rattle.rules.specs.Calls.{Reply, Call, written}
 use Rattle.rules.specs.History.{gathered}
 use Rattle.rules.specs.Demand3.{Demand3, Companions}
 use Rattle.running.specs.declared.RunAnswer.{RunAnswer}
-use Rattle.running.specs.declared.RunEnd.{RunEnd}
-use Rattle.layout.specs.Layout.{answer_row, list_added, text_added, Reading, reading}
+use Rattle.layout.specs.Layout.{answer_row, end_number, list_added, text_added, Reading, reading}
 
 abbrev pub row_added : Call → Reply → List ℕ
 row_added call r = answer_row r.says
@@ -42,14 +41,6 @@ run_reply u words answers lists texts =
     when setup_in_range u
     then ran_from (fresh_state u) (calls_read words answers lists texts) answers lists texts
     else record { calls = 0; end = 0; answers = answers; lists = lists; texts = texts }
-
--- the number of each end
-abbrev pub end_number : RunEnd → ℕ
-end_number RunEnd.Refused = 0
-end_number RunEnd.Whole = 1
-end_number RunEnd.Short = 2
-end_number RunEnd.Unknown = 3
-end_number RunEnd.NoRoom = 4
 
 abbrev pub run_gave : RunAnswer → List ℕ → List ℕ → List ℕ → Ran
 run_gave r answers lists texts =

@@ -2,47 +2,23 @@
 #![tactic(auto)]
 
 ghost use Rattle.std.specs.Prelude.{◌≡◌, ◌≤◌, ◌<◌};
-ghost use Rattle.running.specs.WholeReply.{run_gave, end_number, ran_from, run_reply, calls_read, Demand3OfRun};
+ghost use Rattle.running.specs.WholeReply.{run_gave, ran_from, run_reply, calls_read, Demand3OfRun};
 
 use layout::{end_before, list_places, size_of, text_places};
 use making::make;
-use rules::{Setup, SetupAnswer, State};
+use rules::{Setup, State};
 
 // How many places of `answers` an answer takes.
 pub use layout::rows::ROW;
 
-// Why a run ended: the set-up was refused, the list of calls came to its end, it is cut short within a call, a kind of
-// call is unknown, or a slice has no room for the next answer or its buffer.
-#[derive(Drop)]
-pub enum RunEnd {
-    Refused,
-    Whole,
-    Short,
-    Unknown,
-    NoRoom,
-}
+// Why a run ended.
+pub use layout::RunEnd;
 
+// How many calls were made, and why the run ended.
 #[derive(Drop)]
 pub struct RunAnswer {
     pub calls: u64,
     pub end: RunEnd,
-}
-
-// The end of that number.
-fn end_of(k: u8) -> RunEnd
-    requires { (0 < k) × (k ≤ 4) }
-    ensures { end_number result ≡ k }
-{
-    if k == 1 {
-        return RunEnd::Whole;
-    }
-    if k == 2 {
-        return RunEnd::Short;
-    }
-    if k == 3 {
-        return RunEnd::Unknown;
-    }
-    RunEnd::NoRoom
 }
 
 // Makes call after call from a state, each with the state that the one before left.
@@ -66,17 +42,13 @@ fn run_from(
     let mut told: usize = 0;
     loop {
         let rest = &calls[at..];
-        let end = end_before(
+        if let Some(end) = end_before(
             rest,
             answers.len() - row,
             lists.len() - listed,
             texts.len() - told,
-        );
-        if end != 0 {
-            return RunAnswer {
-                calls: made,
-                end: end_of(end),
-            };
+        ) {
+            return RunAnswer { calls: made, end };
         }
         let size = size_of(rest);
         let places = list_places(rest) as usize;
@@ -111,13 +83,12 @@ pub fn run(
         ≡ run_reply u calls.now answers.old lists.old texts.old)
         × Demand3OfRun u (calls_read calls.now answers.old lists.old texts.old).calls }
 {
-    let r = startup::set_up(u);
-    let a = r.answer;
-    match a {
-        SetupAnswer::Refused(k) => RunAnswer {
+    let fresh = startup::set_up(u);
+    match fresh.answer {
+        Err(_) => RunAnswer {
             calls: 0,
             end: RunEnd::Refused,
         },
-        SetupAnswer::Accepted => run_from(r.state, calls, answers, lists, texts),
+        Ok(()) => run_from(fresh.state, calls, answers, lists, texts),
     }
 }

@@ -10,7 +10,7 @@
 
 ghost use Rattle.std.specs.Prelude.{◌+◌, ◌*◌, ◌≤◌, length};
 
-use lines::text::{find, same};
+use lines::text::find;
 use lines::{answer, input, setups, text};
 use rules::Setup;
 use scheduler::{ROW, RunEnd};
@@ -56,10 +56,9 @@ fn read_lines<R: Read, W: Write>(
     };
     let mut at: usize = 0;
     while at < n {
-        let start = at;
-        let end = find(cases, start, n, 10);
+        let end = find(cases, at, n, b'\n');
+        desk = step(to, &cases[at..end], words, list, out, desk)?;
         at = end + 1;
-        desk = step(to, &cases[start..end], words, list, out, desk)?;
     }
     Ok(())
 }
@@ -75,44 +74,39 @@ fn step<W: Write>(
 ) -> io::Result<Desk>
     requires { length line.now ≤ 2 * length words.old }
 {
-    let u = desk.setup;
-    let n = line.len();
+    let setup = desk.setup;
     let at = text::skip_blanks(line, 0);
-    if n <= at {
+    if line.len() <= at || line[at] == b'#' {
         return Ok(desk);
     }
-    if line[at] == 35 {
-        return Ok(desk);
-    }
-    let end = find(line, at, n, 32);
+    let end = find(line, at, line.len(), b' ');
     let name = &line[at..end];
-    if same(name, b"setup") {
+    if name == b"setup".as_slice() {
         let k = numbers(line, end, words);
         return Ok(Desk {
             setup: read_setup(&words[..k]),
             count: 0,
         });
     }
-    if same(name, b"run") {
+    if name == b"run".as_slice() {
         let k = numbers(line, end, words);
         let count = text::at_most(desk.count as u64, list.len());
-        run(to, u, &list[..count], &words[..k], out)?;
-        return Ok(Desk { setup: u, count: 0 });
+        run(to, setup, &list[..count], &words[..k], out)?;
+        return Ok(Desk { setup, count: 0 });
     }
     let k = numbers(line, at, words);
     Ok(Desk {
-        setup: u,
+        setup,
         count: append(&words[..k], list, desk.count),
     })
 }
 
 // The set-up of these numbers; one of all zeros, which is refused, where they are not as many as it announces.
 fn read_setup(words: &[u64]) -> Setup {
-    let at = setups::count_place(words);
-    if at == 0 {
-        return startup::zero_setup();
+    match setups::count_place(words) {
+        Some(at) => setups::setup_of(words, at),
+        None => startup::zero_setup(),
     }
-    setups::setup_of(words, at)
 }
 
 // The numbers from a place on, at the start of the lent words, and how many there are; none where one is no number.
@@ -120,25 +114,17 @@ fn numbers(line: &[u8], from: usize, words: &mut [u64]) -> usize
     requires { (from ≤ length line.now) × (length line.now ≤ from + 2 * length words.old) }
     ensures { result ≤ length words.new }
 {
-    let got = text::read_numbers(line, from, words);
-    got.count
+    text::read_numbers(line, from, words).unwrap_or(0)
 }
 
 // Puts the words behind the first `count` numbers of the list, as far as it has room, and answers how many it holds then.
 fn append(words: &[u64], list: &mut [u64], count: usize) -> usize {
     let mut at = count;
-    let mut i: usize = 0;
-    while i < words.len() {
-        at = put_word(list, at, words[i]);
-        i += 1;
-    }
-    at
-}
-
-fn put_word(list: &mut [u64], at: usize, x: u64) -> usize {
-    if at < list.len() {
-        list[at] = x;
-        return at + 1;
+    for &x in words {
+        if at < list.len() {
+            list[at] = x;
+            at += 1;
+        }
     }
     at
 }
@@ -164,41 +150,34 @@ fn run<W: Write>(
     show_answers(to, answers, out)?;
     show_lists(to, lists, out)?;
     show_texts(to, texts, t, out)?;
-    let end = r.end;
-    show_end(to, r.calls, end, out)
+    show_end(to, r.calls, r.end, out)
 }
 
 // An answer a line, as far as they were written.
 fn show_answers<W: Write>(to: &mut W, answers: &[u64], out: &mut [u8]) -> io::Result<()> {
-    let mut at: usize = 0;
-    while at + ROW <= answers.len() {
-        if answers[at] == 999 {
+    for (i, row) in answers.chunks_exact(ROW).enumerate() {
+        if row[0] == 999 {
             return Ok(());
         }
-        show_row(to, at, &answers[at..at + ROW], out)?;
-        at += ROW;
+        show_row(to, i as u64, row, out)?;
     }
     Ok(())
 }
 
-fn show_row<W: Write>(to: &mut W, at: usize, row: &[u64], out: &mut [u8]) -> io::Result<()> {
+fn show_row<W: Write>(to: &mut W, i: u64, row: &[u64], out: &mut [u8]) -> io::Result<()> {
     let mut p = answer::put(out, 0, b"answer");
-    p = answer::put_number(out, p, (at as u64) / (ROW as u64));
-    p = answer::put_byte(out, p, 58);
-    let mut i: usize = 0;
-    while i < row.len() {
-        p = answer::put_number(out, p, row[i]);
-        i += 1;
+    p = answer::put_number(out, p, i);
+    p = answer::put_byte(out, p, b':');
+    for &x in row {
+        p = answer::put_number(out, p, x);
     }
-    p = answer::put_byte(out, p, 10);
+    p = answer::put_byte(out, p, b'\n');
     answer::write(to, out, p)
 }
 
 fn show_lists<W: Write>(to: &mut W, lists: &[u16], out: &mut [u8]) -> io::Result<()> {
-    let mut i: usize = 0;
-    while i < lists.len() {
-        show_place(to, i as u64, answer::wide(lists[i]), out)?;
-        i += 1;
+    for (i, &x) in lists.iter().enumerate() {
+        show_place(to, i as u64, u64::from(x), out)?;
     }
     Ok(())
 }
@@ -210,16 +189,16 @@ fn show_place<W: Write>(to: &mut W, i: u64, x: u64, out: &mut [u8]) -> io::Resul
     }
     let mut p = answer::put(out, 0, b"list");
     p = answer::put_number(out, p, i);
-    p = answer::put_byte(out, p, 58);
+    p = answer::put_byte(out, p, b':');
     p = answer::put_number(out, p, x);
-    p = answer::put_byte(out, p, 10);
+    p = answer::put_byte(out, p, b'\n');
     answer::write(to, out, p)
 }
 
 fn show_texts<W: Write>(to: &mut W, texts: &[u8], n: usize, out: &mut [u8]) -> io::Result<()> {
     let mut p = answer::put(out, 0, b"texts ");
     p = answer::put_text(out, p, n as u64, texts);
-    p = answer::put_byte(out, p, 10);
+    p = answer::put_byte(out, p, b'\n');
     answer::write(to, out, p)
 }
 
@@ -227,7 +206,7 @@ fn show_end<W: Write>(to: &mut W, made: u64, end: RunEnd, out: &mut [u8]) -> io:
     let mut p = answer::put(out, 0, b"ran");
     p = answer::put_number(out, p, made);
     p = put_end(out, p, end);
-    p = answer::put_byte(out, p, 10);
+    p = answer::put_byte(out, p, b'\n');
     answer::write(to, out, p)
 }
 

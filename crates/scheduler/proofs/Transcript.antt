@@ -4,7 +4,7 @@ use mathlib.Core.Bool.{true}
 use mathlib.Core.List.{List, [], ◌∷◌, map}
 use Rattle.rules.specs.declared.Setup.{Setup}
 use Rattle.rules.specs.declared.State.{State}
-use Rattle.rules.specs.declared.SetupReply.{SetupReply}
+use Rattle.rules.specs.declared.HandedBack.{HandedBack}
 use Rattle.rules.specs.Setup.{setup_in_range, fresh_state}
 use Rattle.rules.specs.Calls.{reply_to}
 use Rattle.rules.specs.History.{replies_from}
@@ -19,7 +19,7 @@ replies_are s (x ∷ xs) (handed, kept, rest) =
     let given : x.gave ≡ reply_to s x.call = kept ∙ ap (λ z. reply_to z x.call) handed in
     ap₂ ◌∷◌ given (replies_are x.gave.state xs rest ∙ ap (λ r. replies_from r.state (calls_of xs)) given)
 
-pub transcript_holds : (u : Setup) (start : SetupReply) (steps : List Step) → Transcript u start steps → Holds u steps
+pub transcript_holds : (u : Setup) (start : HandedBack (Unit {0})) (steps : List Step) → Transcript u start steps → Holds u steps
 transcript_holds u start steps t =
     let inside : setup_in_range u ≡ true = sym t.begins.1 ∙ t.accepted in
     let first : start.state ≡ fresh_state u = ap (λ r. r.state) t.begins.0 ∙ start_is u inside in

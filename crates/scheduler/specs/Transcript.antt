@@ -2,7 +2,7 @@
 use Rattle.std.specs.Prelude.{◌≡◌, true, List, [], ◌∷◌, map}
 use Rattle.rules.specs.declared.Setup.{Setup}
 use Rattle.rules.specs.declared.State.{State}
-use Rattle.rules.specs.declared.SetupReply.{SetupReply}
+use Rattle.rules.specs.declared.HandedBack.{HandedBack}
 use Rattle.rules.specs.Setup.{fresh_state}
 use Rattle.rules.specs.Calls.{Reply, Call, reply_to}
 use Rattle.rules.specs.History.{replies_from}
@@ -24,7 +24,7 @@ abbrev pub Follows : State → List Step → Type 0
 Follows s [] = Unit {0}
 Follows s (x ∷ xs) = (x.handed ≡ s) × Kept x.call x.handed x.gave × Follows x.gave.state xs
 
-pub record Transcript (u : Setup) (start : SetupReply) (steps : List Step) : Type 0 where
+pub record Transcript (u : Setup) (start : HandedBack (Unit {0})) (steps : List Step) : Type 0 where
   -- what the contract of set-up says, and that its answer was an acceptance
   pub begins : SetupKept u start
   pub accepted : accepts start.answer ≡ true

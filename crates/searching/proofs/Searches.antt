@@ -3,7 +3,6 @@ use Prim.Native.Nat.{ℕ, zero, suc, ◌+◌, ◌-◌, ◌*◌, ◌/◌, ◌≤�
 use mathlib.Core.Bool.{Bool, true, false, ◌&&◌}
 use mathlib.Core.Path.{◌≡◌, refl, sym, ◌∙◌, ap}
 use mathlib.Core.List.{List}
-use native.Mathlib.Numerals.{add-one}
 use native.Mathlib.Omega.{arith}
 use lib.Dec.{eqb, ltb, leb}
 use lib.ListN.{length, get_or}
@@ -183,7 +182,7 @@ module _ {jobs : Jobs} {arrivals : JobList} {waits : List ℕ} {ready : List Boo
               }
 
           pub search_leads : (able_at jobs waits y most x && ahead) && get_or ready x false ≡ true → (m : ℕ) → m ≡ at waits x → m < 65536 → age ≤ 4294967296
-              → SearchedTo jobs arrivals waits ready time t y most (x + 1) age m (looked + 1) (i + 1)
+              → SearchedTo jobs arrivals waits ready time t y most (suc x) age m (looked + 1) (i + 1)
           search_leads h m is_m small old =
               record {
                 bound = omega arith;
@@ -195,5 +194,5 @@ module _ {jobs : Jobs} {arrivals : JobList} {waits : List ℕ} {ready : List Boo
                       some = λ b e. let q : x ≡ b = omega (arith, e) in (omega arith, is-age ∙ ap (λ z. time - at jobs.arrival z + 1) q, is_m ∙ ap (at waits) q);
                     };
                 few = omega (arith, r.few);
-                walked = looked_at_lem (x + 1) (λ s m. add-one x ∙ sym (next s m ∙ if_true (suc x) link h));
+                walked = looked_at_lem (suc x) (λ s m. sym (next s m ∙ if_true (suc x) link h));
               }

@@ -2,80 +2,68 @@
 #![tactic(auto)]
 
 ghost use Rattle.std.specs.Prelude.{◌≡◌};
+ghost use Rattle.rules.specs.Answers.{refusal_in};
 ghost use Rattle.rules.specs.Reporting.{is_death};
 ghost use Rattle.settling.specs.Settling.{CanPutOff, PutOff, entry_refusal};
 
-use columns::{wide, wide32};
-use rules::Move;
+use rules::{Move, Refusal};
 
 // The destination died in its step.
 pub fn is_death(m: Move) -> bool
     ensures { result ≡ is_death m }
 {
-    match m {
-        Move::Unchanged => false,
-        Move::Raised => false,
-        Move::Lowered => false,
-        Move::Dead => true,
-        Move::Revived => false,
-    }
+    m == Move::Dead
 }
 
 // The waiting entries of a destination that died are put off: free, in the list with numbers rising, counted as dropped. Their number.
-pub fn put_off<'a>(
+pub fn put_off(
     kind: &mut [u8; 512],
-    job: &'a [u8; 512],
-    destination: &'a [u8; 512],
+    job: &[u8; 512],
+    destination: &[u8; 512],
     dropped: &mut [u16; 32],
     list: &mut [u16],
-    died: bool,
-    d: u8,
+    dead: Option<u8>,
 ) -> u16
     requires { CanPutOff kind.old job.now dropped.old list.old }
-    ensures { PutOff died d kind.old job.now destination.now dropped.old list.old
-        kind.new dropped.new list.new result }
+    ensures { PutOff dead kind.old job.now destination.now dropped.old list.old kind.new dropped.new list.new result }
 {
-    if !died {
+    let Some(d) = dead else {
         return 0;
-    }
+    };
     let mut m: usize = 0;
-    let mut i: usize = 0;
-    while i < 512 {
-        if (kind[i] == 1) & (destination[i] == d) {
-            let j = wide(job[i]);
-            dropped[j] += 1;
+    for i in 0..512 {
+        if kind[i] == 1 && destination[i] == d {
+            dropped[usize::from(job[i])] += 1;
             list[m] = i as u16;
             kind[i] = 0;
             m += 1;
         }
-        i += 1;
     }
     m as u16
 }
 
-// The refusal of a report to a sound state whose clock is good, by the columns that it reads; 0 for none.
-pub fn refusal<'a>(
-    kind: &'a [u8; 512],
-    tickets: &'a [u32; 512],
+// The refusal of a report to a sound state whose clock is good, by the columns that it reads.
+pub fn refusal(
+    kind: &[u8; 512],
+    tickets: &[u32; 512],
     entry: u64,
     ticket: u64,
     places: usize,
-) -> u8
-    ensures { result ≡ entry_refusal kind.now tickets.now entry ticket places }
+) -> Result<(), Refusal>
+    ensures { refusal_in result ≡ entry_refusal kind.now tickets.now entry ticket places }
 {
     if 512 <= entry {
-        return 9; // there is no such entry
+        return Err(Refusal::Entry); // there is no such entry
     }
     let e = entry as usize;
     if kind[e] != 2 {
-        return 9; // it is not busy
+        return Err(Refusal::Entry); // it is not busy
     }
-    let issued = wide32(tickets[e]);
-    if issued != ticket {
-        return 9; // it is busy with another
+    if u64::from(tickets[e]) != ticket {
+        return Err(Refusal::Entry); // it is busy with another
     }
     if places < 512 {
-        return 10;
+        return Err(Refusal::Room);
     }
-    0
+    Ok(())
 }

@@ -1,3 +1,4 @@
 pub mod Counted
 pub mod PartsOfSound
 pub mod SoundOfParts
+pub mod Agreeing

@@ -5,8 +5,7 @@ ghost use Rattle.std.specs.Prelude.{◌≡◌, false};
 ghost use Rattle.rules.specs.Sound.{sound};
 ghost use Rattle.counting.specs.Counting.{no_pairs, Pairs};
 
-use clauses::{busy, destinations, jobs};
-use columns::wide;
+use clauses::{destinations, jobs};
 use listing::{orders, queues};
 use rules::State;
 
@@ -24,66 +23,51 @@ pub fn sound_with(s: State, pairs: &mut [u16; 1024]) -> bool
     ensures answer { result ≡ sound s }
     ensures pairs { Pairs result s.entries.kind s.entries.job s.entries.destination pairs.new }
 {
-    let u = s.setup;
-    if !ranges::in_range(u) {
+    if !ranges::in_range(s.setup) {
         return false;
     }
-    let transports = u.transports as usize;
-    let destinations = u.destinations as usize;
-    let home = u.home;
-    if transports < wide(s.turn) {
+    let transports = s.setup.transports as usize;
+    let destinations = s.setup.destinations as usize;
+    if transports < usize::from(s.turn) {
         return false;
     }
-    let g = s.jobs;
     let mut marked = [false; 8192];
-    if !orders::mark_orders(&g.present, &g.places, &g.order, &mut marked) {
+    if !orders::mark_orders(&s.jobs.present, &s.jobs.places, &s.jobs.order, &mut marked) {
         return false;
     }
-    let entries = s.entries;
-    let counted = counting::count_entries(
-        &entries.kind,
-        &entries.job,
-        &entries.destination,
-        &g.present,
-        &g.transport,
-        &home,
+    let Some(counted) = counting::count_entries(
+        &s.entries.kind,
+        &s.entries.job,
+        &s.entries.destination,
+        &s.jobs.present,
+        &s.jobs.transport,
+        &s.setup.home,
         destinations,
         &marked,
         pairs,
-    );
-    if !counted.good {
+    ) else {
         return false;
-    }
-    let waiting = counted.waiting;
-    let busy = counted.busy;
-    let held = counted.held;
-    let to = counted.to;
-    let on = counted.on;
-    let stored = s.busy;
-    if !busy::agree(&stored.transport, &on, transports) {
+    };
+    // busy counts of transports and destinations equal the busy entries
+    if s.busy.transport[..transports] != counted.on[..transports] {
         return unsound(pairs);
     }
-    if !busy::agree(&stored.destination, &to, destinations) {
+    if s.busy.destination[..destinations] != counted.to[..destinations] {
         return unsound(pairs);
     }
-    if !jobs::jobs_right(g, u, waiting, busy) {
+    if !jobs::jobs_right(s.jobs, s.setup, counted.waiting, counted.busy) {
         return unsound(pairs);
     }
-    let queues = s.queues;
-    if !queues::queues_right(queues, &g.present, &g.transport, transports) {
+    if !queues::queues_right(s.queues, &s.jobs.present, &s.jobs.transport, transports) {
         return unsound(pairs);
     }
-    let arrivals = s.arrivals;
-    let present = g.present;
-    if !queues::each_once(arrivals, present) {
+    if !queues::each_once(s.arrivals, s.jobs.present) {
         return unsound(pairs);
     }
-    let clock = s.clock;
-    if !queues::seconds_rise(arrivals, &g.arrival, clock) {
+    if !queues::seconds_rise(s.arrivals, &s.jobs.arrival, s.clock) {
         return unsound(pairs);
     }
-    let states = s.destinations;
-    if !destinations::destinations_right(u, states, held) {
+    if !destinations::destinations_right(s.setup, s.destinations, counted.held) {
         return unsound(pairs);
     }
     true

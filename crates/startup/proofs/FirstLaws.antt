@@ -4,7 +4,7 @@ use mathlib.Core.Path.{◌≡◌, refl, sym}
 use mathlib.Core.List.{List, ◌++◌}
 use native.Mathlib.Numerals.{add-one}
 use native.Mathlib.Omega.{arith}
-use lib.ListN.{get_or, set, drop, replicate}
+use lib.ListN.{set, drop, replicate}
 use borrow.Author.Tests.{lt-ltb, le-ltb}
 use Rattle.laws.specs.Bools.{when◌then◌else◌}
 use Rattle.laws.specs.Range.{table_to}
@@ -18,7 +18,7 @@ use Rattle.rules.specs.declared.Setup.{Setup}
 use Rattle.rules.specs.declared.Sums.{Sums}
 use Rattle.rules.specs.declared.Health.TheVariants.{Live}
 use Rattle.rules.specs.declared.Destination.{Destination}
-use Rattle.rules.specs.State.{at, zero_destination, zero_list, settings_in}
+use Rattle.rules.specs.State.{zero_destination, zero_list, settings_in}
 use Rattle.rules.specs.Setup.{first_state, no_busy, no_jobs, no_entries, empty_state, first_destination}
 
 -- nothing in any column, and nothing has happened

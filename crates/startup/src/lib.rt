@@ -9,8 +9,8 @@ ghost use Rattle.rules.specs.Setup.{first_destination, no_busy, no_jobs, no_entr
 ghost use Rattle.rules.specs.Gave.{SetupKept};
 
 use rules::{
-    Busy, Destination, Entries, Feedback, Health, JobList, Jobs, Settings, Setup, SetupAnswer,
-    SetupReply, State, Sums,
+    Busy, Destination, Entries, Feedback, HandedBack, Health, JobList, Jobs, Refusal, Settings,
+    Setup, State, Sums,
 };
 
 fn no_busy() -> Busy
@@ -89,10 +89,9 @@ pub fn zero_settings() -> Settings
 pub fn zero_setup() -> Setup
     ensures { result ≡ zero_setup }
 {
-    let g = zero_settings();
     Setup {
         transports: 0,
-        settings: [g; 4],
+        settings: [zero_settings(); 4],
         destinations: 0,
         home: [0; 32],
     }
@@ -102,7 +101,6 @@ pub fn zero_setup() -> Setup
 fn empty(u: Setup, ds: [Destination; 32]) -> State
     ensures { result ≡ empty_state u ds }
 {
-    let q = no_list();
     State {
         setup: u,
         clock: 0,
@@ -110,7 +108,7 @@ fn empty(u: Setup, ds: [Destination; 32]) -> State
         turn: 0,
         destinations: ds,
         busy: no_busy(),
-        queues: [q; 4],
+        queues: [no_list(); 4],
         arrivals: no_list(),
         jobs: no_jobs(),
         entries: no_entries(),
@@ -134,8 +132,7 @@ fn zero_destination() -> Destination
 pub fn zero() -> State
     ensures { result ≡ zero_state }
 {
-    let d = zero_destination();
-    empty(zero_setup(), [d; 32])
+    empty(zero_setup(), [zero_destination(); 32])
 }
 
 // The destinations of a set-up in their first state, zeros past them.
@@ -143,17 +140,13 @@ fn first_destinations(u: Setup) -> [Destination; 32]
     requires { setup_in_range u ≡ true }
     ensures { result ≡ table_to (first_destination u) 32 }
 {
-    let none = zero_destination();
-    let mut ds = [none; 32];
+    let mut ds = [zero_destination(); 32];
     let count = u.destinations as usize;
-    let mut d: usize = 0;
-    while d < count {
-        let t = u.home[d] as usize;
-        let g = u.settings[t];
+    for d in 0..count {
+        let g = u.settings[u.home[d] as usize];
         ds[d] = Destination {
             health: Health::Live(window::first_state(g)),
         };
-        d += 1;
     }
     ds
 }
@@ -167,17 +160,17 @@ pub fn fresh(u: Setup) -> State
 }
 
 // The state of a set-up. A refused one gives the state of all zeros.
-pub fn set_up(u: Setup) -> SetupReply
+pub fn set_up(u: Setup) -> HandedBack<()>
     ensures { SetupKept u result }
 {
     if !ranges::in_range(u) {
-        return SetupReply {
-            answer: SetupAnswer::Refused(2),
+        return HandedBack {
+            answer: Err(Refusal::SetupOutOfRange),
             state: zero(),
         };
     }
-    SetupReply {
-        answer: SetupAnswer::Accepted,
+    HandedBack {
+        answer: Ok(()),
         state: fresh(u),
     }
 }

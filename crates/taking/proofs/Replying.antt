@@ -6,18 +6,20 @@ use mathlib.Core.Logic.{◌≢◌}
 use mathlib.Core.List.{List, [], ◌∷◌, ◌++◌}
 use native.Mathlib.Omega.{arith}
 use native.Mathlib.Nat.{pos_of_ne-zero}
-use lib.ListN.{length, get_or, set}
+use lib.ListN.{length, get_or, set, take, replicate}
+use Rattle.std.proofs.Math.Seq.{take-append_seam}
+use Rattle.std.proofs.lemmas.List.{length-take-le, get_or-take, get_or-replicate}
 use lib.Dec.{eqb}
 use borrow.Author.Tests.{eq-eqb, ne_eqb}
 use Rattle.laws.specs.Bools.{when◌then◌else◌}
-use Rattle.laws.specs.Range.{count_to, chosen_to, first_to, table_to}
+use Rattle.std.proofs.Common.{Some}
+use Rattle.laws.specs.Range.{count_to, chosen_to, first_below, table_to}
 use Rattle.laws.specs.Sequence.{padded}
 use Rattle.laws.proofs.Bools.{and_left_false}
 use Rattle.laws.proofs.Places.{get_d_default}
 use Rattle.laws.proofs.Count.{count_lt_bound}
-use Rattle.laws.proofs.First.{chosen_below}
+use Rattle.laws.proofs.First.{chosen_below, first_below_some}
 use Rattle.laws.proofs.Once.{EachOnce, once_length}
-use Rattle.laws.proofs.Sequence.{get_or_padded}
 use Rattle.rules.specs.declared.Destination.{Destination}
 use Rattle.rules.specs.declared.JobList.{JobList}
 use Rattle.rules.specs.declared.Jobs.{Jobs}
@@ -119,9 +121,11 @@ facts_of s now t dests list after r dead a table p =
     }
 
 -- the lowest free number, as the code finds it
-pub number_is : (s : State) (now j : ℕ) → j ≡ first_to (λ i. not (get_or s.jobs.present i false)) 32 → j ≡ new_number (woken s now)
+pub number_is : (s : State) (now j : ℕ) → Some j ≡ first_below (λ i. not (get_or s.jobs.present i false)) 32 → j ≡ new_number (woken s now)
 unfolding new_number woken
-number_is s now j h = h
+number_is s now j h =
+    let p : ℕ → Bool = λ i. not (get_or s.jobs.present i false) in
+    (first_below_some p 32 j (sym h)).0
 
 -- a list without all 32 jobs has room for one more
 room_in : (p : ℕ → Bool) (j : ℕ) (l : List ℕ) → EachOnce p 32 l → j < 32 → p j ≡ false → length l < 32
@@ -154,29 +158,53 @@ module _ {s : State} {now t : ℕ} {dests list after : List ℕ} {r : Parts} (f 
         let d = fits.destination i h in
         omega (arith, ap (λ u. u.destinations) (woken_setup s now), (sound_facts s f.accepted.whole).setup.destinations.1)
 
-    pub kept_small : (i : ℕ) → i < r.n → at r.kept i < 32
-    kept_small i h =
-        let e : at r.kept i ≡ at (kept_of (woken s now) dests) i =
-        ap (λ l. at l i) f.kept ∙ get_or_padded 256 (kept_of (woken s now) dests) i in
-        rw e (kept_below i (rw (← f.n) h))
+    -- the kept are the front of their array
+    pub kept_front : take r.n r.kept ≡ kept_of (woken s now) dests
+    unfolding padded
+    kept_front = rw (f.n, f.kept) (take-append_seam (kept_of (woken s now) dests) _)
+
+    pub kept_few : length (take r.n r.kept) ≤ 256
+    kept_few = rw (kept_front, ← f.n) waits_few
+
+    pub kept_small : (i : ℕ) → i < length (take r.n r.kept) → at (take r.n r.kept) i < 32
+    kept_small = rw kept_front kept_below
 
     pub places_enough : r.n ≤ count_to (free_in s.entries.kind) 512
     unfolding free_in woken n_of
     places_enough = omega (arith, f.n, new_room (woken s now) t dests passed)
 
-    module _ (places : List ℕ) (agree : (i : ℕ) → i < r.n → at places i ≡ at (chosen_to (free_in s.entries.kind) 512) i) where
-      pub places_small : (i : ℕ) → i < r.n → at places i < 512
-      places_small i h = rw (agree i h) (chosen_below (free_in s.entries.kind) 0 512 i (omega (arith, places_enough)))
+    module _ (places : List ℕ) (long : length places ≡ 256) (agree : (i : ℕ) → i < r.n → at places i ≡ at (chosen_to (free_in s.entries.kind) 512) i) where
+      front_long : length (take r.n places) ≡ r.n
+      front_long = length-take-le r.n places (omega (arith, long, waits_few))
 
+      front_agrees : (i : ℕ) → i < r.n → at (take r.n places) i ≡ at (chosen_to (free_in s.entries.kind) 512) i
+      front_agrees i h = get_or-take r.n places i 0 h ∙ agree i h
+
+      pub places_small : (i : ℕ) → i < length (take r.n places) → at (take r.n places) i < 512
+      places_small i h =
+          let l : i < r.n = rw (← front_long) h in
+          rw (front_agrees i l) (chosen_below (free_in s.entries.kind) 0 512 i (omega (arith, places_enough)))
+
+      -- a column filled at these places is the rules'
       pub column_is :
-          (g k : ℕ → ℕ) (column filled' : List ℕ)
-          → ((i : ℕ) → i < r.n → g i ≡ k i)
-          → filled' ≡ filled places g r.n column
+          (values : List ℕ) (k : ℕ → ℕ) (column filled' : List ℕ)
+          → ((i : ℕ) → i < r.n → at values i ≡ k i)
+          → filled' ≡ filled (take r.n places) (at values) (length (take r.n places)) column
           → filled' ≡ filled (free_places (woken s now)) k (length (kept_of (woken s now) dests)) column
       unfolding free_places free_in woken
-      column_is g k column filled' same e =
-          e ∙ filled_same places (free_places (woken s now)) g k column r.n agree same
+      column_is values k column filled' same e =
+          e ∙ ap (λ n. filled (take r.n places) (at values) n column) front_long
+          ∙ filled_same (take r.n places) (free_places (woken s now)) (at values) k column r.n front_agrees same
           ∙ ap (λ n. filled (free_places (woken s now)) k n column) f.n
+
+      -- one value at all of them
+      pub column_same :
+          (v : ℕ) (column filled' : List ℕ)
+          → filled' ≡ filled (take r.n places) (at (take r.n (replicate 256 v))) (length (take r.n places)) column
+          → filled' ≡ filled (free_places (woken s now)) (λ i. v) (length (kept_of (woken s now) dests)) column
+      column_same v column filled' =
+          column_is (take r.n (replicate 256 v)) (λ i. v) column filled'
+          (λ i h. get_or-take r.n (replicate 256 v) i 0 h ∙ get_or-replicate 256 i v 0 (omega (arith, waits_few, h)))
 
     absent : is_present s (new_number (woken s now)) ≡ false
     unfolding woken

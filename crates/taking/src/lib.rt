@@ -5,85 +5,92 @@
 ghost use Rattle.std.specs.Prelude.{◌≡◌};
 ghost use Rattle.rules.specs.Calls.{job_reply};
 ghost use Rattle.rules.specs.Gave.{job_gave};
+ghost use Rattle.rules.proofs.Shape.{Shaped};
 
 use admission::{dead_table, first_absent};
-use newjob::{fill_from, fill_same, free_places, new_row, put_last, split};
-use rules::{JobAnswer, JobReply, State};
+use newjob::{fill, free_places, new_row, put_last, split};
+use rules::{HandedBack, JobAnswer, Refusal, State};
 
 // A job with an entry for each destination. Positions of entries put off at once go to the lent list; places past
 // them stay.
-pub fn take_job(s: State, now: u64, transport: u64, dests: &[u64], list: &mut [u16]) -> JobReply
+pub fn take_job(
+    s: State,
+    now: u64,
+    transport: u64,
+    dests: &[u64],
+    list: &mut [u16],
+) -> HandedBack<JobAnswer>
     ensures { job_gave result list.new ≡ job_reply s now transport dests.now list.old }
 {
-    let mut next = s;
-    let mut pairs = [0u16; 1024];
-    if !soundness::sound_with(next, &mut pairs) {
-        return JobReply {
-            answer: JobAnswer::Refused(1),
-            state: s,
-        };
+    let mut state = s;
+    let answer = take(&mut state, now, transport, dests, list);
+    HandedBack { answer, state }
+}
+
+// The same of a state in its place: a refusal leaves it as it came. That its arrays are as long as their types say, the caller knows, who has it by value.
+fn take(
+    state: &mut State,
+    now: u64,
+    transport: u64,
+    dests: &[u64],
+    list: &mut [u16],
+) -> Result<JobAnswer, Refusal>
+    requires { Shaped state.old }
+    ensures { job_gave (record { answer = result; state = state.new }) list.new ≡ job_reply state.old now transport dests.now list.old }
+{
+    let mut pairs = [0; 1024];
+    if !soundness::sound_with(*state, &mut pairs) {
+        return Err(Refusal::Unsound);
     }
-    if waking::bad_clock(s.clock, now) {
-        return JobReply {
-            answer: JobAnswer::Refused(3),
-            state: s,
-        };
+    if waking::bad_clock(state.clock, now) {
+        return Err(Refusal::Clock);
     }
-    let old = s.destinations;
-    let settings = s.setup.settings;
-    let ds = waking::wake(old, &next.setup.home, settings, s.setup.destinations, now);
+    let ds = waking::wake(
+        state.destinations,
+        &state.setup.home,
+        state.setup.settings,
+        state.setup.destinations,
+        now,
+    );
     let dead = dead_table(ds);
-    let k = admission::refusal(
-        &next.setup.home,
-        &next.jobs.present,
-        &next.entries.kind,
-        s.setup.transports,
-        s.setup.destinations,
+    admission::refusal(
+        &state.setup.home,
+        &state.jobs.present,
+        &state.entries.kind,
+        state.setup.transports,
+        state.setup.destinations,
         transport,
         dests,
         &dead,
         list.len(),
-    );
-    if k != 0 {
-        return JobReply {
-            answer: JobAnswer::Refused(k),
-            state: s,
-        };
-    }
-    next.clock = now as u32;
-    next.destinations = ds;
+    )?;
+    state.clock = now as u32;
+    state.destinations = ds;
 
     // the entries for dead destinations are put off; the others wait, if there are any, and are a new job
     let parts = split(dests, &dead, list);
     let n = parts.n as usize;
     if n == 0 {
-        return JobReply {
-            answer: JobAnswer::PutOff(parts.putoff),
-            state: next,
-        };
+        return Ok(JobAnswer {
+            job: None,
+            putoff: parts.putoff,
+        });
     }
-    let j = first_absent(&next.jobs.present);
-    let jobs = next.jobs;
-    let row = new_row(jobs, j, transport as u8, parts.n, &parts.kept, now as u32);
-    next.jobs = row;
-    let places = free_places(&next.entries.kind, n);
-    fill_same(&mut next.entries.kind, &places, n, 1);
-    fill_same(&mut next.entries.job, &places, n, j);
-    fill_from(&mut next.entries.destination, &places, n, &parts.kept);
+    let job = first_absent(&state.jobs.present).unwrap();
+    let kept = &parts.kept[..n];
+    state.jobs = new_row(state.jobs, job, transport as u8, kept, now as u32);
+    let free = free_places(&state.entries.kind, n);
+    let places = &free[..n];
+    fill(&mut state.entries.kind, places, &[1; 256][..n]);
+    fill(&mut state.entries.job, places, &[job; 256][..n]);
+    fill(&mut state.entries.destination, places, kept);
 
     // it goes to the end of its transport's list, and of all jobs'
     let lane = transport as usize;
-    let q = next.queues[lane];
-    let queue = put_last(q, j);
-    next.queues[lane] = queue;
-    let a = next.arrivals;
-    let arrivals = put_last(a, j);
-    next.arrivals = arrivals;
-    JobReply {
-        answer: JobAnswer::Taken {
-            job: j,
-            putoff: parts.putoff,
-        },
-        state: next,
-    }
+    state.queues[lane] = put_last(state.queues[lane], job);
+    state.arrivals = put_last(state.arrivals, job);
+    Ok(JobAnswer {
+        job: Some(job),
+        putoff: parts.putoff,
+    })
 }

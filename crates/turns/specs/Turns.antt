@@ -1,5 +1,5 @@
 -- Turns, over columns: of the transports and their lists, and of the places of a job's destination order.
-use Rattle.std.specs.Prelude.{ℕ, ◌+◌, ◌*◌, ◌%◌, ◌≤◌, ◌<◌, ◌≡◌, Bool, true, false, List, length, get_or, ltb}
+use Rattle.std.specs.Prelude.{ℕ, ◌+◌, ◌*◌, ◌%◌, ◌≤◌, ◌<◌, ◌≡◌, Bool, false, List, length, get_or, ltb}
 use Rattle.laws.specs.Sequence.{first_of, up_to, count_in}
 use Rattle.rules.specs.declared.JobList.{JobList}
 use Rattle.rules.specs.State.{at, zero_list, list_of}
@@ -26,14 +26,15 @@ front_steps ready queues n start = steps_to (has_front ready queues) n start
 abbrev pub Lists : List JobList → ℕ → Type 0
 Lists queues n = (t : ℕ) → t < n → ((get_or queues t zero_list).count ≤ 32) × (length (get_or queues t zero_list).jobs ≡ 32)
 
--- a turn of transports: which is found, its current job, how many that passed over
-pub record Turned (queues : List JobList) (n start : ℕ) (waits : List ℕ) (ready : List Bool) (found : Bool) (transport job passed : ℕ) : Type 0 where
-  pub finds : found ≡ ltb (front_steps ready queues n start) n
-  pub on : found ≡ true → transport ≡ (start + front_steps ready queues n start) % n
-  pub current : found ≡ true → job ≡ front_of ready (list_of (get_or queues transport zero_list))
-  pub ahead : found ≡ true → passed ≡ ahead_of waits (list_of (get_or queues transport zero_list)) job
+-- a turn of transports, where one has it: which it is, its current job, how many that passed over
+pub record Turned (queues : List JobList) (n start : ℕ) (waits : List ℕ) (ready : List Bool) (transport job passed : ℕ) : Type 0 where
+  pub finds : front_steps ready queues n start < n
+  pub on : transport ≡ (start + front_steps ready queues n start) % n
+  pub current : job ≡ front_of ready (list_of (get_or queues transport zero_list))
+  pub ahead : passed ≡ ahead_of waits (list_of (get_or queues transport zero_list)) job
 
 -- a turn of the places of an order, where there is such a place
 pub record Placed (order pairs : List ℕ) (room : List Bool) (j n start place destination : ℕ) : Type 0 where
+  pub finds : steps_to (open_place order pairs room j) n start < n
   pub turn : place ≡ (start + steps_to (open_place order pairs room j) n start) % n
   pub taken : destination ≡ at order (32 * j + place)

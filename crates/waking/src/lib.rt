@@ -9,24 +9,20 @@ ghost use Rattle.rules.specs.State.{at};
 ghost use Rattle.rules.specs.Windows.{woken_at};
 ghost use Rattle.waking.specs.Waking.{is_due, setup_of};
 
-use columns::index64;
 use rules::{Destination, Health, Settings};
 
 // Refusal 3: the clock is earlier than the last accepted one, or above 2^32-1. Of a state's own clock this is `bad_clock` (`clock_is` of proofs/).
 pub fn bad_clock(last: u32, now: u64) -> bool
     ensures { result ≡ (ltb now last || ltb last_second now) }
 {
-    (now < last as u64) | (4294967295 < now)
+    now < u64::from(last) || u64::from(u32::MAX) < now
 }
 
 // A dead destination whose suspension ends at or before now.
 fn is_due(h: Health, now: u64) -> bool
     ensures { result ≡ is_due h now }
 {
-    match h {
-        Health::Live(_) => false,
-        Health::Dead(end) => end <= now,
-    }
+    matches!(h, Health::Dead(end) if end <= now)
 }
 
 // All destinations, woken, by the parts of the set-up that this reads: the homes, the settings, and how many destinations there are. Only what is due is
@@ -41,20 +37,14 @@ pub fn wake(
     requires { (count ≤ 32) × ((d : ℕ) → d < count → at home.now d < 4) }
     ensures { result ≡ table_to (woken_at ds (setup_of home.now settings count) now) 32 }
 {
-    let n = count as usize;
     let mut next = ds;
-    let mut d: usize = 0;
-    while d < n {
-        let x = next[d];
-        let h = x.health;
-        if is_due(h, now) {
-            let t = index64(home[d]);
-            let g = settings[t];
+    for d in 0..count as usize {
+        if is_due(next[d].health, now) {
+            let g = settings[home[d] as usize];
             next[d] = Destination {
                 health: Health::Live(window::first_state(g)),
             };
         }
-        d += 1;
     }
     next
 }

@@ -1,8 +1,7 @@
 // Document 01, "Windows": a destination's first state, its step after a success or a failure, and why its number moved in it.
 #![tactic(auto)]
 
-ghost use Rattle.std.specs.Prelude.{◌≡◌, true, ◌*◌, ◌≤◌, ◌<◌, min, max};
-ghost use Rattle.laws.specs.Fractions.{rounded_up};
+ghost use Rattle.std.specs.Prelude.{◌≡◌, true, ◌*◌, ◌≤◌, ◌<◌};
 ghost use Rattle.rules.specs.declared.Health.TheVariants.{Live};
 ghost use Rattle.rules.specs.Sizes.{U, max_window};
 ghost use Rattle.rules.specs.Setup.{settings_in_range, first_state};
@@ -14,27 +13,18 @@ ghost use Rattle.rules.specs.Sound.{sums_fit};
 
 use roots::root;
 use rules::{Feedback, Health, Move, Outcome, Settings, StepAnswer, Sums, U};
-
-// a/b rounded up. The bounds are those of p·U and of 100·window.
-fn rounded_up(a: u64, b: u64) -> u64
-    requires { (a ≤ 100 * U) × (1 ≤ b) × (b ≤ 100 * max_window) }
-    ensures { result ≡ rounded_up a b }
-{
-    (a + b - 1) / b
-}
+use std::cmp::Ordering;
 
 // The feedback at a window, in its form: flat, per window, by the square root. That both are in range soundness gives for a live destination.
 pub fn feedback(f: Feedback, window: u64) -> u64
     requires { (f.percent ≤ 100) × (1 ≤ window) × (window ≤ max_window) }
     ensures { result ≡ feedback f window }
 {
-    if f.form == 0 {
-        return f.percent * U / 100;
+    match f.form {
+        0 => f.percent * U / 100,
+        1 => (f.percent * U).div_ceil(100 * window),
+        _ => f.percent * root(window) / 100,
     }
-    if f.form == 1 {
-        return rounded_up(f.percent * U, 100 * window);
-    }
-    f.percent * root(window) / 100
 }
 
 // The share of a cohort that one failure is, at a live destination's window.
@@ -42,7 +32,7 @@ pub fn cohort_share(window: u64) -> u64
     requires { (1 ≤ window) × (window ≤ max_window) }
     ensures { result ≡ cohort_share window }
 {
-    rounded_up(U, window)
+    U.div_ceil(window)
 }
 
 // A destination's first state.
@@ -57,18 +47,6 @@ pub fn first_state(g: Settings) -> Sums
     }
 }
 
-fn least(a: u64, b: u64) -> u64
-    ensures { result ≡ min a b }
-{
-    if a <= b { a } else { b }
-}
-
-fn greatest(a: u64, b: u64) -> u64
-    ensures { result ≡ max a b }
-{
-    if a <= b { b } else { a }
-}
-
 // The sums with this success: at U or more the window grows.
 fn raised(g: Settings, u: Sums, success: u64) -> Sums
     requires { u.window ≤ max_window }
@@ -76,33 +54,15 @@ fn raised(g: Settings, u: Sums, success: u64) -> Sums
 {
     if success < U {
         return Sums {
-            window: u.window,
-            success: success,
-            failure: u.failure,
+            success,
             cohorts: 0,
+            ..u
         };
     }
     Sums {
-        window: least(u.window + 1, g.limit),
+        window: (u.window + 1).min(g.limit),
         success: success - U,
         failure: 0,
-        cohorts: 0,
-    }
-}
-
-// A live destination after a success, under what `after_success` asks.
-fn live_after_success(g: Settings, busy: u64, u: Sums) -> Sums
-    requires { (settings_in_range g ≡ true) × (sums_fit g u ≡ true) × (busy ≤ 512) }
-    ensures { result ≡ live_after_success g busy u }
-{
-    if u.window < busy + g.initial {
-        let f = g.positive;
-        return raised(g, u, u.success + feedback(f, u.window));
-    }
-    Sums {
-        window: u.window,
-        success: u.success,
-        failure: u.failure,
         cohorts: 0,
     }
 }
@@ -114,18 +74,6 @@ fn revived(g: Settings) -> Health
     Health::Live(first_state(g))
 }
 
-// A destination after a success; busy still counts this delivery. Soundness gives that the settings are in range, that the
-// destination fits them, and that no more than 512 entries are busy.
-fn after_success(g: Settings, busy: u64, h: Health) -> Health
-    requires { (settings_in_range g ≡ true) × (health_fits g h ≡ true) × (busy ≤ 512) }
-    ensures { result ≡ after_success g busy h }
-{
-    match h {
-        Health::Live(u) => Health::Live(live_after_success(g, busy, u)),
-        Health::Dead(_) => revived(g),
-    }
-}
-
 // The sums with this fall of failure, and these cohorts: below 0 the window falls, to no less than 1. Both bounds are soundness.
 fn lowered(u: Sums, fall: u64, cohorts: u64) -> Sums
     requires { (u.failure < U) × (fall ≤ U) }
@@ -133,55 +81,88 @@ fn lowered(u: Sums, fall: u64, cohorts: u64) -> Sums
 {
     if fall <= u.failure {
         return Sums {
-            window: u.window,
-            success: u.success,
             failure: u.failure - fall,
-            cohorts: cohorts,
+            cohorts,
+            ..u
         };
     }
     Sums {
-        window: greatest(u.window, 2) - 1,
+        window: u.window.max(2) - 1,
         success: 0,
         failure: u.failure + U - fall,
-        cohorts: cohorts,
+        cohorts,
     }
 }
 
-// A live destination after a failure that brings it to these cohorts, under what `after_failure` asks.
-fn live_after_failure(g: Settings, now: u64, u: Sums, cohorts: u64) -> Health
-    requires { (settings_in_range g ≡ true) × (sums_fit g u ≡ true) × (now ≤ 4294967295) }
-    ensures { result ≡ live_after_failure g now u cohorts }
-{
-    if g.cohortlimit * U <= cohorts {
-        return Health::Dead(now + g.suspension);
-    }
-    let f = g.negative;
-    let fall = feedback(f, u.window);
-    Health::Live(lowered(u, fall, cohorts))
+// What a report finds beside its destination: the settings, which soundness says are in range, how many of the 512 entries are busy there, this delivery
+// counted, and the clock, which its own test says is a second.
+#[derive(Clone, Copy)]
+struct Report {
+    settings: Settings,
+    busy: u64,
+    now: u64,
+    ghost in_range: { settings_in_range settings ≡ true },
+    ghost few: { busy ≤ 512 },
+    ghost second: { now ≤ 4294967295 },
 }
 
-// A destination after a failure. The clock is at most 2^32-1 by its own test; the rest is soundness.
-fn after_failure(g: Settings, now: u64, h: Health) -> Health
-    requires { (settings_in_range g ≡ true) × (health_fits g h ≡ true) × (now ≤ 4294967295) }
-    ensures { result ≡ after_failure g now h }
-{
-    match h {
-        Health::Live(u) => {
-            let cohorts = u.cohorts + cohort_share(u.window);
-            live_after_failure(g, now, u, cohorts)
+// That the destination fits the settings is soundness too.
+impl Report {
+    // A live destination after a success.
+    fn live_after_success(self, u: Sums) -> Sums
+        requires { sums_fit self.settings u ≡ true }
+        ensures { result ≡ live_after_success self.settings self.busy u }
+    {
+        if u.window < self.busy + self.settings.initial {
+            let success = u.success + feedback(self.settings.positive, u.window);
+            return raised(self.settings, u, success);
         }
-        Health::Dead(end) => Health::Dead(end),
+        Sums { cohorts: 0, ..u }
     }
-}
 
-// The destination after this outcome; busy still counts this delivery.
-fn after_report(g: Settings, busy: u64, now: u64, h: Health, outcome: Outcome) -> Health
-    requires { (settings_in_range g ≡ true) × (health_fits g h ≡ true) × (busy ≤ 512) × (now ≤ 4294967295) }
-    ensures { result ≡ after_report g busy now outcome h }
-{
-    match outcome {
-        Outcome::Success => after_success(g, busy, h),
-        Outcome::Failure => after_failure(g, now, h),
+    // A destination after a success.
+    fn after_success(self, h: Health) -> Health
+        requires { health_fits self.settings h ≡ true }
+        ensures { result ≡ after_success self.settings self.busy h }
+    {
+        match h {
+            Health::Live(u) => Health::Live(self.live_after_success(u)),
+            Health::Dead(_) => revived(self.settings),
+        }
+    }
+
+    // A live destination after a failure that brings it to these cohorts.
+    fn live_after_failure(self, u: Sums, cohorts: u64) -> Health
+        requires { sums_fit self.settings u ≡ true }
+        ensures { result ≡ live_after_failure self.settings self.now u cohorts }
+    {
+        if self.settings.cohortlimit * U <= cohorts {
+            return Health::Dead(self.now + self.settings.suspension);
+        }
+        let fall = feedback(self.settings.negative, u.window);
+        Health::Live(lowered(u, fall, cohorts))
+    }
+
+    // A destination after a failure.
+    fn after_failure(self, h: Health) -> Health
+        requires { health_fits self.settings h ≡ true }
+        ensures { result ≡ after_failure self.settings self.now h }
+    {
+        match h {
+            Health::Live(u) => self.live_after_failure(u, u.cohorts + cohort_share(u.window)),
+            Health::Dead(_) => h,
+        }
+    }
+
+    // The destination after this outcome.
+    fn after(self, h: Health, outcome: Outcome) -> Health
+        requires { health_fits self.settings h ≡ true }
+        ensures { result ≡ after_report self.settings self.busy self.now outcome h }
+    {
+        match outcome {
+            Outcome::Success => self.after_success(h),
+            Outcome::Failure => self.after_failure(h),
+        }
     }
 }
 
@@ -190,13 +171,11 @@ fn after_report(g: Settings, busy: u64, now: u64, h: Health, outcome: Outcome) -
 fn window_moved(found: u64, left: u64) -> Move
     ensures { result ≡ window_moved found left }
 {
-    if found < left {
-        return Move::Raised;
+    match found.cmp(&left) {
+        Ordering::Less => Move::Raised,
+        Ordering::Greater => Move::Lowered,
+        Ordering::Equal => Move::Unchanged,
     }
-    if left < found {
-        return Move::Lowered;
-    }
-    Move::Unchanged
 }
 
 fn live_moved(found: u64, left: Health) -> Move
@@ -226,14 +205,19 @@ fn moved(outcome: Outcome, found: Health, left: Health) -> Move
     }
 }
 
-// The step of a report on a destination after waking, under what `after_report` asks.
+// The step of a report on a destination after waking; busy still counts this delivery.
 pub fn step(g: Settings, busy: u64, now: u64, h: Health, outcome: Outcome) -> StepAnswer
     requires { (settings_in_range g ≡ true) × (health_fits g h ≡ true) × (busy ≤ 512) × (now ≤ 4294967295) }
     ensures { result ≡ stepped g busy now outcome h }
 {
-    let health = after_report(g, busy, now, h, outcome);
+    let report = Report {
+        settings: g,
+        busy,
+        now,
+    };
+    let health = report.after(h, outcome);
     StepAnswer {
-        health: health,
+        health,
         moved: moved(outcome, h, health),
     }
 }

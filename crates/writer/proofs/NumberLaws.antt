@@ -1,17 +1,20 @@
 -- Numbers looked through and measured one after the other.
-use Prim.Native.Nat.{ℕ, suc, ◌+◌, ◌*◌, ◌/◌, ◌≤◌, ◌<◌}
+use Prim.Native.Nat.{ℕ, zero, suc, ◌+◌, ◌*◌, ◌/◌, ◌%◌, ◌≤◌, ◌<◌}
 use mathlib.Core.Path.{◌≡◌, refl, sym, ◌∙◌, ap}
 use mathlib.Core.Bool.{true, false}
 use mathlib.Core.List.{List, [], ◌∷◌, ◌++◌, append-nil}
 use native.Mathlib.Omega.{arith}
 use native.Mathlib.Numerals.{add-one}
 use lib.ListN.{length, get_or, take, drop, length-append, take-append-drop}
-use lib.Seq.{take-suc, take_all}
+use lib.Seq.{take-suc}
 use lib.Dec.{ltb}
-use borrow.Author.Tests.{lt-ltb, le-ltb, ltb-true, ltb-false}
+use borrow.Author.Tests.{ltb-true, ltb-false}
+use Rattle.std.specs.List.{sum_by}
+use Rattle.std.proofs.lemmas.List.Sums.{sum_by-cons}
+use Rattle.laws.specs.Bools.{when◌then◌else◌}
 use Rattle.laws.specs.Sequence.{every_in}
-use Rattle.laws.proofs.Bools.{case_bool, and_both}
-use Rattle.laws.proofs.Sequence.{every_get_or, every_false_of, every_append_both}
+use Rattle.laws.proofs.Bools.{case_bool}
+use Rattle.laws.proofs.Sequence.{every_get_or}
 use Rattle.journal.specs.Numbers.{small}
 use Rattle.journal.specs.Writes.{groups_of, number_bytes, numbers_bytes}
 use Rattle.journal.proofs.Groups.{groups_one, groups_more, numbers_append}
@@ -27,6 +30,11 @@ module _ (most x : ℕ) where
 
   pub size_some : 1 ≤ length (groups_of (suc most) x)
   size_some = case_bool (ltb x 128) (λ t. omega (arith, size_one (ltb-true x 128 t))) (λ f. omega (arith, size_more (ltb-false x 128 f) refl))
+
+-- the last group that may be
+pub size_last : (x : ℕ) → 1 ≡ length (groups_of 1 x)
+unfolding groups_of
+size_last x = case_bool (ltb x 128) (λ t. size_one 0 x (ltb-true x 128 t)) (λ f. size_more 0 x (ltb-false x 128 f) refl)
 
 -- one number behind the other
 
@@ -55,27 +63,26 @@ module _ (list : List ℕ) (i : ℕ) (h : i < length list) where
   pub small_at : every_in small list ≡ true → get_or list i 0 < 4_294_967_296
   small_at t = ltb-true _ _ (every_get_or small list t i 0 h)
 
-  pub large_at : 4_294_967_295 < get_or list i 0 → false ≡ every_in small list
-  large_at l = sym (every_false_of small list i 0 h (le-ltb (get_or list i 0) 4_294_967_296 (omega arith)))
+-- the bytes that a list of numbers takes
 
-  pub small_next : every_in small (take i list) ≡ true → get_or list i 0 ≤ 4_294_967_295 → every_in small (take (i + 1) list) ≡ true
-  unfolding every_in
-  small_next t l = rw take_next (every_append_both small (take i list) (get_or list i 0 ∷ []) t (and_both (lt-ltb (get_or list i 0) 4_294_967_296 (omega arith)) refl))
+-- how many bytes a number takes
+abbrev pub bytes_in : ℕ → ℕ
+bytes_in x = length (number_bytes x)
 
--- the bytes that the numbers before place i take
-pub record Sized (list : List ℕ) (size i : ℕ) : Type 0 where
-  pub within : i ≤ length list
-  pub is : size ≡ length (numbers_bytes (take i list))
-  pub few : size ≤ 5 * i
+pub sizes_sum : (list : List ℕ) → sum_by bytes_in list ≡ length (numbers_bytes list)
+unfolding numbers_bytes
+sizes_sum [] = refl
+sizes_sum (x ∷ list) = sum_by-cons bytes_in x list ∙ ap (λ n. bytes_in x + n) (sizes_sum list) ∙ sym (length-append (number_bytes x) (numbers_bytes list))
 
-module _ (list : List ℕ) where
-  pub sized_none : Sized list 0 0
-  unfolding numbers_bytes
-  sized_none = record { within = omega arith; is = refl; few = omega arith }
+size_most : (most x : ℕ) → length (groups_of most x) ≤ most
+unfolding groups_of when◌then◌else◌
+size_most zero x = omega arith
+size_most (suc most) x = elim (ltb x 128) as (λ b. length (when b then x ∷ [] else (128 + x % 128) ∷ groups_of most (x / 128)) ≤ suc most) [
+  | true ↦ omega arith
+  | false ↦ omega (arith, size_most most (x / 128))
+]
 
-  module _ {size : ℕ} (i : ℕ) (s : Sized list size i) where
-    pub sized_next : {n : ℕ} → i < length list → n ≡ length (number_bytes (get_or list i 0)) → n ≤ 5 → Sized list (size + n) (i + 1)
-    sized_next h e l = record { within = omega arith; is = omega (arith, s.is, e, length_next list i h); few = omega (arith, s.few) }
-
-    pub sized_all : length list ≤ i → size ≡ length (numbers_bytes list)
-    sized_all h = rw (take_all i list h) at s.is
+pub sizes_few : (list : List ℕ) → length (numbers_bytes list) ≤ 5 * length list
+unfolding number_bytes numbers_bytes
+sizes_few [] = omega arith
+sizes_few (x ∷ list) = omega (arith, sizes_few list, size_most 5 x, length-append (groups_of 5 x) (numbers_bytes list))

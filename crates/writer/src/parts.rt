@@ -1,64 +1,75 @@
 // What records are made of: numbers, lists of numbers, the bytes of a name.
 ghost use Rattle.std.specs.Prelude.{◌+◌, ◌≤◌, ◌<◌, ◌≡◌, true, length, leb};
 ghost use Rattle.laws.specs.Sequence.{every_in};
+ghost use Rattle.rules.specs.Setup.{within};
+ghost use Rattle.rules.specs.declared.Refusal.{Refusal};
 ghost use Rattle.journal.specs.Numbers.{small};
 ghost use Rattle.journal.specs.Writes.{number_bytes, numbers_bytes};
-ghost use Rattle.writer.specs.Parts.{Stored};
+ghost use Rattle.writer.specs.Parts.{unless, Stored};
+
+use rules::Refusal;
 
 // Whether so many bytes fit behind those that are used.
-pub fn fits(room: usize, used: usize, size: usize) -> bool
-    ensures { result ≡ leb (used + size) room }
+pub fn fits(room: usize, used: usize, size: usize) -> Result<(), Refusal>
+    ensures { result ≡ unless (leb (used + size) room) Refusal.Room }
 {
-    if room < size {
-        return false;
+    if size <= room && used <= room - size {
+        Ok(())
+    } else {
+        Err(Refusal::Room)
     }
-    used <= room - size
 }
 
-pub fn all_small(list: &[u64]) -> bool
-    ensures { result ≡ every_in small list.now }
+// Whether a field is from low to high.
+pub fn in_range(x: u64, low: u64, high: u64) -> Result<(), Refusal>
+    ensures { result ≡ unless (within low high x) Refusal.OutOfRange }
 {
-    let mut i: usize = 0;
-    while i < list.len() {
-        if 4294967295 < list[i] {
-            return false;
-        }
-        i += 1;
+    if low <= x && x <= high {
+        Ok(())
+    } else {
+        Err(Refusal::OutOfRange)
     }
-    true
+}
+
+// Whether a field is below 2^32.
+pub fn small(x: u64) -> Result<(), Refusal>
+    ensures { result ≡ unless (small x) Refusal.OutOfRange }
+{
+    if x < 4294967296 {
+        Ok(())
+    } else {
+        Err(Refusal::OutOfRange)
+    }
+}
+
+pub fn all_small(list: &[u64]) -> Result<(), Refusal>
+    ensures { result ≡ unless (every_in small list.now) Refusal.OutOfRange }
+{
+    if list.iter().all(|&x| x < 4294967296) {
+        Ok(())
+    } else {
+        Err(Refusal::OutOfRange)
+    }
 }
 
 // How many groups a number has.
 pub fn size_of(x: u64) -> usize
-    requires { x < 4294967296 }
     ensures { (result ≡ length (number_bytes x)) × (result ≤ 5) }
 {
-    if x < 128 {
-        return 1;
+    match x {
+        ..128 => 1,
+        ..16384 => 2,
+        ..2097152 => 3,
+        ..268435456 => 4,
+        _ => 5,
     }
-    if x < 16384 {
-        return 2;
-    }
-    if x < 2097152 {
-        return 3;
-    }
-    if x < 268435456 {
-        return 4;
-    }
-    5
 }
 
 pub fn size_of_all(list: &[u64]) -> usize
-    requires { (length list.now ≤ 256) × (every_in small list.now ≡ true) }
+    requires { length list.now ≤ 256 }
     ensures { (result ≡ length (numbers_bytes list.now)) × (result ≤ 1280) }
 {
-    let mut size: usize = 0;
-    let mut i: usize = 0;
-    while i < list.len() {
-        size += size_of(list[i]);
-        i += 1;
-    }
-    size
+    list.iter().map(|&x| size_of(x)).sum()
 }
 
 // Each of these puts something at a place of a buffer that has room for it, and answers the place behind it.
@@ -72,7 +83,7 @@ pub fn put_number(buffer: &mut [u8], at: usize, x: u64) -> usize
     while 128 <= y {
         buffer[p] = 128 + (y % 128) as u8;
         p += 1;
-        y = y / 128;
+        y /= 128;
     }
     buffer[p] = y as u8;
     p + 1
@@ -83,10 +94,8 @@ pub fn put_numbers(buffer: &mut [u8], at: usize, list: &[u64]) -> usize
     ensures { Stored (numbers_bytes list.now) buffer.old at buffer.new result }
 {
     let mut p = at;
-    let mut i: usize = 0;
-    while i < list.len() {
-        p = put_number(buffer, p, list[i]);
-        i += 1;
+    for &x in list {
+        p = put_number(buffer, p, x);
     }
     p
 }

@@ -21,11 +21,11 @@ fn put_decimal(x: u64, buf: &mut [u8]) -> usize
     ensures { Wrote (decimal x) buf.old buf.new result }
 {
     if x < 10 {
-        buf[0] = 48 + x as u8;
+        buf[0] = b'0' + x as u8;
         return 1;
     }
     let at = put_decimal(x / 10, buf);
-    buf[at] = 48 + (x % 10) as u8;
+    buf[at] = b'0' + (x % 10) as u8;
     at + 1
 }
 
@@ -33,10 +33,10 @@ fn put_decimal(x: u64, buf: &mut [u8]) -> usize
 pub fn decimal_length(x: u64) -> usize
     ensures { result ≡ length (decimal x) }
 {
-    let mut n: usize = 1;
+    let mut n = 1;
     let mut y = x;
     while 10 <= y {
-        y = y / 10;
+        y /= 10;
         n += 1;
     }
     n

@@ -1,8 +1,4 @@
-use Prim.Native.Nat.{ℕ, ◌+◌}
-use mathlib.Core.Bool.{Bool, not, false}
-use mathlib.Core.Path.{◌≡◌, refl, sym, ap, ◌∙◌}
-use native.Mathlib.Omega.{arith}
-use lib.ListN.{length, get_or, take}
+use Rattle.std.proofs.Common.{◌≡◌, ℕ, ◌+◌, Bool, not, false, length, get_or, take, refl, sym, ap, ◌∙◌, arith, rules}
 use lib.Seq.{take-length}
 use Rattle.laws.specs.Sequence.{keep}
 use Rattle.laws.proofs.Building.{keep_more, keep_fewer, length_keep_take}
@@ -10,37 +6,31 @@ use Rattle.laws.proofs.Front.{length_snoc}
 use Rattle.rules.specs.State.{at}
 use Rattle.admission.specs.Admission.{kept_by}
 use Rattle.admission.proofs.count_kept.Goals as goal
-use Rattle.admission.proofs.count_kept.Goals.{else-not-dead-k, then-not-dead-k}
+use Rattle.admission.proofs.count_kept.Goals.{else-not-dead-d, then-not-dead-d}
 
-pub loop-i-init : goal.loop-i-init
+pub loop-d-init : goal.loop-d-init
 unfolding keep
-loop-i-init c = (omega arith, refl)
+loop-d-init c = refl
 
-pub bounds-dead-k : goal.bounds-dead-k
-bounds-dead-k c = c.requires _ c.loop-i-test.true
+pub bounds-dead-d : goal.bounds-dead-d
+bounds-dead-d c = c.requires _ (omega arith)
 
 pub overflow_add-n : goal.overflow_add-n
-overflow_add-n c =
-    let turn = c.loop-i in
-    let start = c in
-    omega (arith, length_keep_take (λ d. not (get_or start.args.dead.now d false)) start.args.dests.now turn.i (omega arith))
+overflow_add-n c = omega (arith, length_keep_take (λ d. not (get_or c.args.dead.now d false)) c.args.dests.now c.loop-d.d-index (omega arith))
 
-pub loop-i-preserved : goal.loop-i-preserved
-loop-i-preserved c =
-    let turn = c.loop-i in
-    let below = c.loop-i-test.true in
+pub loop-d-preserved : goal.loop-d-preserved
+loop-d-preserved c =
+    let turn = c.loop-d in
     let dests = c.args.dests.now in
     let live : ℕ → Bool = λ d. not (get_or c.args.dead.now d false) in
-    let one_more = sym (length_snoc (keep live (take turn.i dests)) (at dests turn.i)) in (
-      omega arith,
-      elim c.if-not-dead-k.branch [
-        | then-not-dead-k w ↦ w.n-is ∙ ap (λ x. x + 1) turn.invariant.1 ∙ one_more ∙ ap length (sym (keep_more live dests turn.i below w.if-not-dead-k.true-raw))
-        | else-not-dead-k w ↦ w.n-is ∙ turn.invariant.1 ∙ ap length (sym (keep_fewer live dests turn.i below w.if-not-dead-k.false-raw))
-      ],
-    )
+    let one_more = sym (length_snoc (keep live (take turn.d-index dests)) (at dests turn.d-index)) in
+    elim c.if-not-dead-d.branch [
+      | then-not-dead-d w ↦ w.n-is ∙ ap (λ x. x + 1) turn.invariant ∙ one_more ∙ ap length (sym (keep_more live dests turn.d-index (omega arith) (search rules)))
+      | else-not-dead-d w ↦ w.n-is ∙ turn.invariant ∙ ap length (sym (keep_fewer live dests turn.d-index (omega arith) (search rules)))
+    ]
 
 pub returns : goal.returns
 unfolding kept_by
 returns c =
-    let e : c.loop-i.i ≡ length c.args.dests.now = omega arith in
-    rw (e, take-length c.args.dests.now) at c.loop-i.invariant.1
+    let e : c.loop-d.d-index ≡ length c.args.dests.now = omega arith in
+    rw (e, take-length c.args.dests.now) at c.loop-d.invariant

@@ -1,24 +1,14 @@
-use mathlib.Core.Bool.{not, false}
-use mathlib.Core.Path.{◌≡◌, sym}
-use native.Mathlib.Omega.{arith}
-use lib.ListN.{get_or}
-use borrow.Author.Count.{below_more}
-use Rattle.laws.proofs.First.{first_unique, first_none}
+use Rattle.std.proofs.Common.{◌≡◌, not, false, length, sym, ap, ◌∙◌, rules, tests, position, get_or}
+use Rattle.std.proofs.lemmas.Iterator.{YieldsList-from_slice}
+use Rattle.std.proofs.lemmas.Iterator.Search.{position_from_yields_List}
+use Rattle.laws.specs.Range.{first_below}
+use Rattle.laws.proofs.Iterated.{first_below_position}
 use Rattle.admission.proofs.first_absent.Goals as goal
-
-pub loop-j-init : goal.loop-j-init
-loop-j-init c = (omega arith, λ k h. absurd (omega arith))
-
-pub returns-then-not-present-j : goal.returns-then-not-present-j
-returns-then-not-present-j c =
-    let turn = c.loop-j in
-    let start = c in
-    sym (first_unique (λ j. not (get_or start.args.present.now j false)) 32 turn.j c.loop-j-test.true c.if-not-present-j.true-raw turn.invariant.1)
-
-pub loop-j-preserved : goal.loop-j-preserved
-loop-j-preserved c = (omega arith, below_more _ _ c.loop-j.invariant.1 c.if-not-present-j.false-raw)
 
 pub returns : goal.returns
 returns c =
-    let e : c.loop-j.j ≡ 32 = omega arith in
-    sym (first_none (λ j. not (get_or c.args.present.now j false)) 32 (rw e at c.loop-j.invariant.1))
+    let present = c.args.present.now in
+    let e : c.position.result ≡ position not present = position_from_yields_List not _ _ _ c.position.ensures.ran (YieldsList-from_slice present cc) (λ x b q k. search (rules, tests)) in
+    let m : c.map.result ≡ c.position.result = search rules in
+    let n : length present ≡ 32 = search rules in
+    m ∙ e ∙ sym (first_below_position not present false) ∙ ap (first_below (λ j. not (get_or present j false))) n

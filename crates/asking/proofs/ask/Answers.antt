@@ -3,7 +3,7 @@ use mathlib.Core.Path.{◌≡◌, refl, sym, ◌∙◌, subst}
 use mathlib.Core.Bool.{true, false}
 use lib.ListN.{get_or-eq_default}
 use Rattle.rules.proofs.Shape.{present_length}
-use Rattle.columns.proofs.Shapes.{shaped}
+use Rattle.rules.proofs.Shapes.{shaped}
 use Rattle.rules.specs.Sound.{sound}
 use Rattle.rules.specs.Calls.{Call}
 use Rattle.rules.proofs.Replies.{reply_unsound}
@@ -24,12 +24,12 @@ returns-then-job-ge32 c =
     ask_absent s e.args.job (whole (goal.at.returns-then-job-ge32 e).Else-not-sound)
     (get_or-eq_default s.jobs.present false (subst (λ n. n ≤ e.args.job) (sym (present_length (shaped s e.well_formed.0).jobs)) c.if-job-ge32.true))
 
-pub returns-then-not-g-j : goal.returns-then-not-g-j
-returns-then-not-g-j c =
+pub returns-then-not-s-j : goal.returns-then-not-s-j
+returns-then-not-s-j c =
     let e = c in
-    ask_absent e.args.s e.args.job (whole (goal.at.returns-then-not-g-j e).Else-not-sound) c.if-not-g-j.true
+    ask_absent e.args.s e.args.job (whole (goal.at.returns-then-not-s-j e).Else-not-sound) c.if-not-s-j.true
 
 pub returns : goal.returns
 returns c =
     let e = c in
-    ask_answered e.args.s e.args.job _ (whole (goal.at.returns e).Else-not-sound) c.if-not-g-j.false refl
+    ask_answered e.args.s e.args.job _ (whole (goal.at.returns e).Else-not-sound) c.if-not-s-j.false refl

@@ -17,7 +17,7 @@ pub overflow_add-result-in-Dead : goal.overflow_add-result-in-Dead
 overflow_add-result-in-Dead c = omega (arith, digits_high _ c.decimal_length-in-Dead.ensures)
 
 pub returns-in-Live : goal.returns-in-Live
-returns-in-Live c = live_length _ _ _ _ _ c.in-Live.is c.decimal_length.ensures c.decimal_length-in-Live.ensures
+returns-in-Live c = rw c.from.ensures at (live_length _ _ _ _ _ c.in-Live.is c.decimal_length.ensures c.decimal_length-in-Live.ensures)
 
 pub returns-in-Dead : goal.returns-in-Dead
 returns-in-Dead c = dead_length _ _ _ _ c.in-Dead.is c.decimal_length-in-Dead.ensures

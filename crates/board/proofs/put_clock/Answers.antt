@@ -1,5 +1,4 @@
 -- AT with the clock, and the end of the line, are put one behind the other. Assumes nothing.
-use borrow.Author.Rules.{rules}
 use mathlib.Core.List.{◌++◌}
 use Prim.Native.Nat.{◌≤◌}
 use native.Mathlib.Omega.{arith}
@@ -14,24 +13,18 @@ first : (c : Start) → length (at_word ++ numbered c.args.clock) ≤ length c.a
 unfolding clock_line
 first c = front_fits (at_word ++ numbered c.args.clock) line_end c.requires
 
--- LOST slice-aggregate-put-number
--- slice-aggregate-put-number c = search rules
-
 pub put_number-at-requires : goal.put_number-at-requires
-put_number-at-requires c = first (goal.at.put_number-at-requires c).Start
-
--- LOST slice-aggregate-put
--- slice-aggregate-put c = search rules
+put_number-at-requires c = rw c.from.ensures (first (goal.at.put_number-at-requires c).Start)
 
 pub slice_bounds-put-count : goal.slice_bounds-put-count
-slice_bounds-put-count c = start_fits c.put_number-at.ensures (first (goal.at.slice_bounds-put-count c).Start)
+slice_bounds-put-count c = start_fits c.put_number-at.ensures (rw c.from.ensures (first (goal.at.slice_bounds-put-count c).Start))
 
 pub slice_bounds-put-start : goal.slice_bounds-put-start
-slice_bounds-put-start c = start_fits c.put_number-at.ensures (first (goal.at.slice_bounds-put-start c).Start)
+slice_bounds-put-start c = start_fits c.put_number-at.ensures (rw c.from.ensures (first (goal.at.slice_bounds-put-start c).Start))
 
 pub put-at-requires : goal.put-at-requires
 unfolding clock_line
-put-at-requires c = rest_fits c.put_number-at.ensures line_end c.requires
+put-at-requires c = rest_fits c.put_number-at.ensures line_end (rw c.from.ensures c.requires)
 
 pub overflow_add-at : goal.overflow_add-at
 unfolding clock_line
@@ -39,10 +32,10 @@ overflow_add-at c =
     omega (
       arith,
       end_fits c.put_number-at.ensures c.put-at.ensures
-          c.requires,
+          (rw c.from.ensures c.requires),
       c.well_formed,
     )
 
 pub returns : goal.returns
 unfolding clock_line
-returns c = behind c.put_number-at.ensures c.put-at.ensures
+returns c = rw c.from.ensures at (behind c.put_number-at.ensures c.put-at.ensures)

@@ -1,5 +1,4 @@
 -- DEAD and the end second are put one behind the other. Assumes nothing.
-use borrow.Author.Rules.{rules}
 use Prim.Native.Nat.{◌≤◌}
 use native.Mathlib.Omega.{arith}
 use lib.ListN.{length}
@@ -12,14 +11,8 @@ use Rattle.board.proofs.put_dead.Goals.{Start}
 first : (c : Start) → length dead_word ≤ length c.args.buf.now
 first c = front_fits dead_word (numbered c.args.end) c.requires
 
--- LOST slice-aggregate-put
--- slice-aggregate-put c = search rules
-
 pub put-at-requires : goal.put-at-requires
 put-at-requires c = first (goal.at.put-at-requires c).Start
-
--- LOST slice-aggregate-put-number
--- slice-aggregate-put-number c = search rules
 
 pub slice_bounds-put_number-count : goal.slice_bounds-put_number-count
 slice_bounds-put_number-count c = start_fits c.put-at.ensures (first (goal.at.slice_bounds-put_number-count c).Start)

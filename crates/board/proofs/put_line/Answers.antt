@@ -1,5 +1,4 @@
 -- A line is put part by part, each lent the rest of the buffer. Assumes nothing.
-use borrow.Author.Rules.{rules}
 use mathlib.Core.List.{◌++◌}
 use Prim.Native.Nat.{◌≤◌}
 use native.Mathlib.Omega.{arith}
@@ -20,14 +19,8 @@ second c = front_fits ((line_word ++ numbered c.args.d) ++ blank) (health_text c
 first : (c : Start) → length (line_word ++ numbered c.args.d) ≤ length c.args.buf.now
 first c = front_fits (line_word ++ numbered c.args.d) blank (second c)
 
--- LOST slice-aggregate-put-number
--- slice-aggregate-put-number c = search rules
-
 pub put_number-at-requires : goal.put_number-at-requires
 put_number-at-requires c = first (goal.at.put_number-at-requires c).Start
-
--- LOST slice-aggregate-put
--- slice-aggregate-put c = search rules
 
 pub slice_bounds-put-count : goal.slice_bounds-put-count
 slice_bounds-put-count c =
@@ -79,9 +72,6 @@ overflow_add-at-2 c =
           (third (goal.at.overflow_add-at-2 c).Start),
       c.well_formed,
     )
-
--- LOST slice-aggregate-put-2
--- slice-aggregate-put-2 c = search rules
 
 pub slice_bounds-put-count-2 : goal.slice_bounds-put-count-2
 slice_bounds-put-count-2 c =

@@ -1,5 +1,4 @@
 -- LIVE, the window and busy are put one behind the other. Assumes nothing.
-use borrow.Author.Rules.{rules}
 use mathlib.Core.List.{◌++◌}
 use Prim.Native.Nat.{◌≤◌}
 use native.Mathlib.Omega.{arith}
@@ -16,14 +15,8 @@ second c = front_fits (live_word ++ numbered c.args.window) (numbered c.args.bus
 first : (c : Start) → length live_word ≤ length c.args.buf.now
 first c = front_fits live_word (numbered c.args.window) (second c)
 
--- LOST slice-aggregate-put
--- slice-aggregate-put c = search rules
-
 pub put-at-requires : goal.put-at-requires
 put-at-requires c = first (goal.at.put-at-requires c).Start
-
--- LOST slice-aggregate-put-number
--- slice-aggregate-put-number c = search rules
 
 pub slice_bounds-put_number-count : goal.slice_bounds-put_number-count
 slice_bounds-put_number-count c =
@@ -49,9 +42,6 @@ overflow_add-at c =
       c.well_formed,
     )
 
--- LOST slice-aggregate-put-number-2
--- slice-aggregate-put-number-2 c = search rules
-
 pub slice_bounds-put_number-count-2 : goal.slice_bounds-put_number-count-2
 slice_bounds-put_number-count-2 c =
     let n = c in
@@ -66,20 +56,17 @@ slice_bounds-put_number-start-2 c =
 
 pub put_number-at-requires-2 : goal.put_number-at-requires-2
 put_number-at-requires-2 c =
-    let n = c in
-    let w = n in
-    rest_fits (behind w.put-at.ensures n.put_number-at.ensures) (numbered _) w.requires
+    rest_fits (behind c.put-at.ensures c.put_number-at.ensures) (numbered _) (rw c.from.ensures c.requires)
 
 pub overflow_add-at-2 : goal.overflow_add-at-2
 overflow_add-at-2 c =
     omega (
       arith,
       end_fits (behind c.put-at.ensures c.put_number-at.ensures) c.put_number-at-2.ensures
-          c.requires,
+          (rw c.from.ensures c.requires),
       c.well_formed,
     )
 
 pub returns : goal.returns
 returns c =
-    let n = c in
-    behind (behind n.put-at.ensures n.put_number-at.ensures) c.put_number-at-2.ensures
+    rw c.from.ensures at (behind (behind c.put-at.ensures c.put_number-at.ensures) c.put_number-at-2.ensures)

@@ -10,7 +10,7 @@ pub overflow_add-total-2 : goal.overflow_add-total-2
 overflow_add-total-2 c = omega (arith, digits_high _ c.decimal_length.ensures)
 
 pub loop-d-init : goal.loop-d-init
-loop-d-init c = count_first c.requires c.decimal_length.ensures
+loop-d-init c = count_first c.requires (rw c.from.ensures at c.decimal_length.ensures)
 
 pub overflow_add-total-in-loop-d : goal.overflow_add-total-in-loop-d
 overflow_add-total-in-loop-d c = omega (arith, count_high (count_line c.loop-d.invariant c.loop-d-test.true c.line_length-total.ensures), c.loop-d.invariant.few)

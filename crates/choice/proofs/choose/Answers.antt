@@ -1,30 +1,28 @@
 -- `choice::choose` meets its contract: the leaf functions read what the rules read (eligibility/proofs/Pairs.antt, proofs/Readings.antt), and proofs/Chosen.antt puts it together. Assumes nothing.
-use Prim.Native.Nat.{◌*◌, ◌≤◌, ◌<◌}
-use mathlib.Core.Path.{◌≡◌, refl, sym, ◌∙◌, ap, subst}
-use mathlib.Core.Bool.{true}
+use Rattle.std.proofs.Common.{ℕ, ◌≡◌, ◌*◌, ◌≤◌, ◌<◌, refl, sym, ◌∙◌, ap, true, get_or, ltb-true, arith}
+use mathlib.Core.Path.{subst}
 use native.Mathlib.Nat.{lt_of_lt_of_le}
-use lib.Dec.{lit≤}
-use lib.ListN.{get_or}
-use borrow.Author.Tests.{not-true, not-false}
+use Rattle.laws.specs.Range.{any_to, first_to}
+use Rattle.laws.proofs.First.{first_any}
 use Rattle.rules.specs.SoundFacts.{Sound}
 use Rattle.rules.specs.State.{at, zero_settings, settings_of, is_present, order_at}
-use Rattle.laws.specs.Range.{any_to}
-use Rattle.rules.specs.Picking.{eligible_to, has_eligible, next_place, next_entry}
+use Rattle.rules.specs.Picking.{eligible_to, has_eligible, next_place}
 use Rattle.rules.specs.Preemption.{preemptor_of}
 use Rattle.rules.specs.Setup.{settings_in_range}
 use Rattle.rules.proofs.Shape.{Shaped}
-use Rattle.preemption.specs.Preempting.{waiting_at}
-use Rattle.eligibility.specs.Eligibility.{ready_in, Reads}
-use Rattle.columns.proofs.Shapes.{shaped}
-use Rattle.searching.proofs.Sizes.{index_fits, same_below}
-use Rattle.searching.proofs.Arrivals.{arrived_read}
+use Rattle.rules.proofs.RangeFacts.{slots_range}
+use Rattle.rules.proofs.Shapes.{shaped}
+use Rattle.eligibility.specs.Eligibility.{ready_in, Reads, waits_for, open_place}
 use Rattle.eligibility.proofs.Lefts.{left_is, fits_left}
 use Rattle.eligibility.proofs.Pairs.{pairs_read, place_open, first_read}
-use Rattle.choice.proofs.Readings.{TurnRead, adds_read, turn_read, not_found, next_open, placed_read, entry_read}
-use Rattle.rules.proofs.RangeFacts.{slots_range}
+use Rattle.eligibility.proofs.FirstBelow.{below_is, below_found}
+use Rattle.searching.proofs.Arrivals.{arrived_read}
+use Rattle.preemption.specs.Preempting.{preemptor_at}
+use Rattle.choice.specs.Choosing.{picked_from}
+use Rattle.choice.proofs.Readings.{TurnRead, adds_read, turn_read, not_found, next_open, place_found, placed_read, entry_read}
 use Rattle.choice.proofs.Chosen.{sold_read, job_read, nothing_chosen, all_chosen}
 use Rattle.choice.proofs.choose.Goals as goal
-use Rattle.choice.proofs.choose.Goals.{After-first_waiting-entry, After-left_waiting-waits, After-next_place-next, After-picked_from-job, After-wide-at, After-wide-from, Else-not-turn, Start}
+use Rattle.choice.proofs.choose.Goals.{After-left_waiting-waits, After-picked_from-job, After-first_waiting, After-from, In_ok-transport, In_ok-place, Start}
 
 -- The state is sound, and one that came in has its shape.
 right : (c : After-left_waiting-waits) → Sound c.args.w
@@ -41,135 +39,153 @@ tables c =
     pairs_read c.args.w (formed c) (right c) c.open_table-room.result c.open_table-room.ensures c.args.pairs.now c.requires.3 c.left_waiting-waits.result
     (left_is c.args.w.jobs c.args.w.entries.kind c.args.w.entries.job (adds_read c.args.w (formed c) (right c)) c.left_waiting-waits.result c.left_waiting-waits.ensures.jobs c.left_waiting-waits.ensures.others)
 
-turned : (c : Else-not-turn) → TurnRead c.args.w c.next_transport-turn.result.transport c.next_transport-turn.result.job c.next_transport-turn.result.passed
+turned : (c : In_ok-transport) → TurnRead c.args.w c.in_ok-transport.field-0.transport c.in_ok-transport.field-0.job c.in_ok-transport.field-0.passed
 turned c =
-    let w = (goal.at.Else-not-turn c).After-left_waiting-waits in
-    let r = c.next_transport-turn.result in
+    let w = (goal.at.In_ok-transport c).After-left_waiting-waits in
     turn_read c.args.w (formed w) (right w) c.left_waiting-waits.result (ready_in c.args.pairs.now c.open_table-room.result) (tables w)
-    r.found r.transport r.job r.passed c.next_transport-turn.ensures (not-false r.found c.if-not-turn.false)
+    c.in_ok-transport.field-0.transport c.in_ok-transport.field-0.job c.in_ok-transport.field-0.passed c.in_ok-transport.ensures
 
 -- the settings of the transport, as the code reads them
-settings-at : (c : After-wide-at)
-    → settings_of c.args.w c.next_transport-turn.result.transport ≡ get_or c.args.w.setup.settings c.wide-at.result zero_settings
-settings-at c = ap (λ x. get_or c.args.w.setup.settings x zero_settings) (sym c.wide-at.ensures.0)
+settings-at : (c : After-from) → settings_of c.args.w c.in_ok-transport.field-0.transport ≡ get_or c.args.w.setup.settings c.from.result zero_settings
+settings-at c = ap (λ x. get_or c.args.w.setup.settings x zero_settings) (sym c.from.ensures)
 
 preempted : (c : After-picked_from-job)
-    → (c.find_preemptor-p.result.link ≡ preemptor_of c.args.w c.args.now c.next_transport-turn.result.transport c.next_transport-turn.result.job)
-    × (c.find_preemptor-p.result.waiting ≡ waiting_at c.args.w c.find_preemptor-p.result.link)
-preempted c = c.find_preemptor-p.ensures.preempts c.args.w refl refl (settings-at (goal.at.After-picked_from-job c).After-wide-at) (tables (goal.at.After-picked_from-job c).After-left_waiting-waits)
+    → c.find_preemptor-preemptor.result ≡ preemptor_at c.args.w (preemptor_of c.args.w c.args.now c.in_ok-transport.field-0.transport c.in_ok-transport.field-0.job)
+preempted c =
+    let here = goal.at.After-picked_from-job c in
+    c.find_preemptor-preemptor.ensures.preempts c.args.w refl refl (settings-at here.After-from) (tables here.After-left_waiting-waits)
 
 job-found : (c : After-picked_from-job) → (c.picked_from-job.result < 32) × (is_present c.args.w c.picked_from-job.result ≡ true) × (has_eligible c.args.w c.picked_from-job.result ≡ true)
 job-found c =
-    let t = c in
-    let r = turned (goal.at.After-picked_from-job c).Else-not-turn in
-    job_read t.args.w (formed (goal.at.After-picked_from-job t).After-left_waiting-waits) (right (goal.at.After-picked_from-job t).After-left_waiting-waits) t.args.now c.next_transport-turn.result.transport c.next_transport-turn.result.job
-    c.find_preemptor-p.result.link c.picked_from-job.result r.transport.below r.is (preempted c).0 c.picked_from-job.ensures
+    let here = goal.at.After-picked_from-job c in
+    let w = here.After-left_waiting-waits in
+    let r = turned here.In_ok-transport in
+    job_read c.args.w (formed w) (right w) c.args.now c.in_ok-transport.field-0.transport c.in_ok-transport.field-0.job _ c.picked_from-job.result r.transport.below r.is refl
+    (c.picked_from-job.ensures ∙ ap (picked_from c.in_ok-transport.field-0.job) (preempted c))
 
-from-below : (c : After-wide-from) → c.wide-from.result < 32
-from-below c = same_below c.wide-from.result c.picked_from-job.result 32 c.wide-from.ensures.0 (job-found (goal.at.After-wide-from c).After-picked_from-job).0
+-- an entry of the job waits at each place of its order that is open
+asked : (c : After-picked_from-job) (k : ℕ) → open_place c.args.w.jobs.order c.args.pairs.now c.open_table-room.result c.picked_from-job.result k
+    ≡ any_to (eligible_to c.args.w c.picked_from-job.result (order_at c.args.w c.picked_from-job.result k)) 512
+asked c k =
+    let w = (goal.at.After-picked_from-job c).After-left_waiting-waits in
+    place_open c.args.w (formed w) (right w) c.open_table-room.result c.open_table-room.ensures c.args.pairs.now c.requires.3 c.picked_from-job.result k (job-found c).0
 
 -- the place and the destination that the turn is at
-place_at : (c : After-next_place-next)
-    → (c.next_place-next.result.place ≡ next_place c.args.w c.picked_from-job.result) × (c.next_place-next.result.destination ≡ order_at c.args.w c.picked_from-job.result (next_place c.args.w c.picked_from-job.result))
+place_at : (c : In_ok-place)
+    → (c.in_ok-place.field-0.place ≡ next_place c.args.w c.picked_from-job.result) × (c.in_ok-place.field-0.destination ≡ order_at c.args.w c.picked_from-job.result (next_place c.args.w c.picked_from-job.result))
 place_at c =
-    let t = c in
-    let j = job-found (goal.at.After-next_place-next c).After-picked_from-job in
-    let index = c.wide-from in
-    placed_read t.args.w (formed (goal.at.After-next_place-next t).After-left_waiting-waits) (right (goal.at.After-next_place-next t).After-left_waiting-waits) c.picked_from-job.result j.0 j.1 j.2 t.args.pairs.now t.open_table-room.result
-    (λ k. place_open t.args.w (formed (goal.at.After-next_place-next t).After-left_waiting-waits) (right (goal.at.After-next_place-next t).After-left_waiting-waits) t.open_table-room.result t.open_table-room.ensures t.args.pairs.now t.requires.3 c.picked_from-job.result k j.0)
-    index.result c.next_place-next.result.place c.next_place-next.result.destination index.ensures.0 c.next_place-next.ensures
+    let here = goal.at.In_ok-place c in
+    let w = here.After-left_waiting-waits in
+    let j = job-found here.After-picked_from-job in
+    placed_read c.args.w (formed w) (right w) c.picked_from-job.result j.0 j.1 j.2 c.args.pairs.now c.open_table-room.result (asked here.After-picked_from-job)
+    c.in_ok-place.field-0.place c.in_ok-place.field-0.destination c.in_ok-place.ensures
 
-entry_at : (c : After-first_waiting-entry) → c.first_waiting-entry.result ≡ next_entry c.args.w c.picked_from-job.result
-entry_at c =
-    let f = c in
-    let t = f in
-    let j = job-found (goal.at.After-first_waiting-entry f).After-picked_from-job in
-    let k = place_at (goal.at.After-first_waiting-entry c).After-next_place-next in
-    entry_read t.args.w (formed (goal.at.After-first_waiting-entry t).After-left_waiting-waits) (right (goal.at.After-first_waiting-entry t).After-left_waiting-waits) f.picked_from-job.result j.0 j.1 j.2 c.next_place-next.result.destination c.first_waiting-entry.result k.1
-    (c.first_waiting-entry.ensures
-    ∙ first_read t.args.w (formed (goal.at.After-first_waiting-entry t).After-left_waiting-waits) (right (goal.at.After-first_waiting-entry t).After-left_waiting-waits) t.open_table-room.result t.open_table-room.ensures t.args.pairs.now t.requires.3 f.picked_from-job.result c.next_place-next.result.destination
-    (subst (λ d. any_to (eligible_to t.args.w f.picked_from-job.result d) 512 ≡ true) (sym k.1) (next_open t.args.w (formed (goal.at.After-first_waiting-entry t).After-left_waiting-waits) (right (goal.at.After-first_waiting-entry t).After-left_waiting-waits) f.picked_from-job.result j.0 j.1 j.2)))
+-- an entry waits for that destination: the first that waits is the first that is eligible
+some_entry : (c : In_ok-place) → any_to (eligible_to c.args.w c.picked_from-job.result c.in_ok-place.field-0.destination) 512 ≡ true
+some_entry c =
+    let here = goal.at.In_ok-place c in
+    let w = here.After-left_waiting-waits in
+    let j = job-found here.After-picked_from-job in
+    subst (λ d. any_to (eligible_to c.args.w c.picked_from-job.result d) 512 ≡ true) (sym (place_at c).1) (next_open c.args.w (formed w) (right w) c.picked_from-job.result j.0 j.1 j.2)
+
+first_is : (c : In_ok-place)
+    → first_to (waits_for c.args.w.entries.kind c.args.w.entries.job c.args.w.entries.destination c.picked_from-job.result c.in_ok-place.field-0.destination) 512
+    ≡ first_to (eligible_to c.args.w c.picked_from-job.result c.in_ok-place.field-0.destination) 512
+first_is c =
+    let w = (goal.at.In_ok-place c).After-left_waiting-waits in
+    first_read c.args.w (formed w) (right w) c.open_table-room.result c.open_table-room.ensures c.args.pairs.now c.requires.3 c.picked_from-job.result c.in_ok-place.field-0.destination (some_entry c)
 
 pub open_table-room-requires : goal.open_table-room-requires
 open_table-room-requires c = c.requires.0.setup
 
 pub left_waiting-waits-requires : goal.left_waiting-waits-requires
 left_waiting-waits-requires c =
-    let s = c in
-    fits_left s.args.w.jobs s.args.w.entries.kind s.args.w.entries.job (adds_read s.args.w (shape (goal.at.left_waiting-waits-requires s).Start) s.requires.0)
+    fits_left c.args.w.jobs c.args.w.entries.kind c.args.w.entries.job (adds_read c.args.w (shape (goal.at.left_waiting-waits-requires c).Start) c.requires.0)
 
-pub next_transport-turn-requires : goal.next_transport-turn-requires
-next_transport-turn-requires c =
-    let t = c in
-    let h = right (goal.at.next_transport-turn-requires t).After-left_waiting-waits in (
+pub next_transport-requires : goal.next_transport-requires
+next_transport-requires c =
+    let w = (goal.at.next_transport-requires c).After-left_waiting-waits in
+    let h = right w in (
       h.setup.transports.0,
       h.setup.transports.1,
       h.turn,
-      (formed (goal.at.next_transport-turn-requires t).After-left_waiting-waits).queues,
-      λ k l. ((h.queues k l).count, (formed (goal.at.next_transport-turn-requires t).After-left_waiting-waits).queue k (lt_of_lt_of_le l h.setup.transports.1)),
+      (formed w).queues,
+      λ k l. ((h.queues k l).count, (formed w).queue k (lt_of_lt_of_le l h.setup.transports.1)),
     )
 
-pub returns-then-not-turn : goal.returns-then-not-turn
-returns-then-not-turn c =
-    let a = c in
-    let t = a in
-    let r = a.next_transport-turn.result in
-    nothing_chosen t.args.w t.args.now
-    (not_found t.args.w (formed (goal.at.returns-then-not-turn t).After-left_waiting-waits) (right (goal.at.returns-then-not-turn t).After-left_waiting-waits) t.left_waiting-waits.result (ready_in t.args.pairs.now t.open_table-room.result) (tables (goal.at.returns-then-not-turn t).After-left_waiting-waits) r.found r.transport r.job r.passed a.next_transport-turn.ensures
-    (not-true r.found c.if-not-turn.true))
+pub returns-in_err-transport : goal.returns-in_err-transport
+returns-in_err-transport c =
+    let w = (goal.at.returns-in_err-transport c).After-left_waiting-waits in
+    c.from_residual.ensures
+    ∙ nothing_chosen c.args.w c.args.now
+    (not_found c.args.w (formed w) (right w) c.left_waiting-waits.result (ready_in c.args.pairs.now c.open_table-room.result) (tables w) c.in_err-transport.ensures)
 
-pub offset_bounds-setup-at : goal.offset_bounds-setup-at
-offset_bounds-setup-at c = index_fits c.wide-at.result 104 c.wide-at.ensures.1 (lit≤ tt)
+pub bounds-w-from : goal.bounds-w-from
+bounds-w-from c =
+    let here = goal.at.bounds-w-from c in
+    let below = (turned here.In_ok-transport).transport.below in
+    omega (arith, c.from.ensures, below, (right here.After-left_waiting-waits).setup.transports.1)
 
-pub bounds-setup-at : goal.bounds-setup-at
-bounds-setup-at c =
-    same_below c.wide-at.result c.next_transport-turn.result.transport 4 c.wide-at.ensures.0
-    (lt_of_lt_of_le (turned (goal.at.bounds-setup-at c).Else-not-turn).transport.below (right (goal.at.bounds-setup-at c).After-left_waiting-waits).setup.transports.1)
-
-pub find_preemptor-p-requires : goal.find_preemptor-p-requires
-find_preemptor-p-requires c =
-    let i = c in
-    let f = i in
-    let t = f in
-    let h = right (goal.at.find_preemptor-p-requires t).After-left_waiting-waits in
-    let r = turned (goal.at.find_preemptor-p-requires f).Else-not-turn in
-    let g = slots_range (get_or t.args.w.setup.settings i.wide-at.result zero_settings)
-    (subst (λ x. settings_in_range x ≡ true) (settings-at (goal.at.find_preemptor-p-requires i).After-wide-at) (h.setup.settings f.next_transport-turn.result.transport r.transport.below)) in record {
-      list = (t.requires.2, h.arrivals.count, (formed (goal.at.find_preemptor-p-requires t).After-left_waiting-waits).arrivals, arrived_read t.args.w (formed (goal.at.find_preemptor-p-requires t).After-left_waiting-waits) h t.args.now t.requires.1);
+pub find_preemptor-preemptor-requires : goal.find_preemptor-preemptor-requires
+find_preemptor-preemptor-requires c =
+    let here = goal.at.find_preemptor-preemptor-requires c in
+    let w = here.After-left_waiting-waits in
+    let h = right w in
+    let r = turned here.In_ok-transport in
+    let e = settings-at here.After-from in
+    let g = slots_range (get_or c.args.w.setup.settings c.from.result zero_settings)
+    (subst (λ x. settings_in_range x ≡ true) e (h.setup.settings c.in_ok-transport.field-0.transport r.transport.below)) in
+    record {
+      list = (c.requires.2, h.arrivals.count, (formed w).arrivals, arrived_read c.args.w (formed w) h c.args.now c.requires.1);
       slots = (
         r.is.below,
         g.dear,
         g.minimum,
         g.loan,
         g.discount,
-        subst (λ x. x.cost * at t.args.w.jobs.sold f.next_transport-turn.result.job ≤ 256) (settings-at (goal.at.find_preemptor-p-requires i).After-wide-at) (sold_read t.args.w (formed (goal.at.find_preemptor-p-requires t).After-left_waiting-waits) h f.next_transport-turn.result.transport f.next_transport-turn.result.job r.is),
+        subst (λ x. x.cost * at c.args.w.jobs.sold c.in_ok-transport.field-0.job ≤ 256) e (sold_read c.args.w (formed w) h c.in_ok-transport.field-0.transport c.in_ok-transport.field-0.job r.is),
       );
     }
 
-pub bounds-jobs-from : goal.bounds-jobs-from
-bounds-jobs-from c = from-below (goal.at.bounds-jobs-from c).After-wide-from
+pub next_place-requires : goal.next_place-requires
+next_place-requires c =
+    let here = goal.at.next_place-requires c in
+    let j = job-found here.After-picked_from-job in
+    let s = (right here.After-left_waiting-waits).jobs c.picked_from-job.result j.0 j.1 in
+    (j.0, s.places, s.turn)
 
-pub bounds-jobs-from-2 : goal.bounds-jobs-from-2
-bounds-jobs-from-2 c = from-below (goal.at.bounds-jobs-from-2 c).After-wide-from
+pub returns-in_err-place : goal.returns-in_err-place
+returns-in_err-place c =
+    let here = goal.at.returns-in_err-place c in
+    let w = here.After-left_waiting-waits in
+    let j = job-found here.After-picked_from-job in
+    let found = place_found c.args.w (formed w) (right w) c.picked_from-job.result j.0 j.1 j.2 c.args.pairs.now c.open_table-room.result (asked here.After-picked_from-job) in
+    absurd (omega (arith, found, c.in_err-place.ensures))
 
-pub next_place-next-requires : goal.next_place-next-requires
-next_place-next-requires c =
-    let i = c in
-    let f = i in
-    let w = f.args.w in
-    let j = job-found (goal.at.next_place-next-requires f).After-picked_from-job in
-    let s = (right (goal.at.next_place-next-requires f).After-left_waiting-waits).jobs f.picked_from-job.result j.0 j.1 in (
-      j.0,
-      subst (λ x. at w.jobs.places x ≤ 32) (sym i.wide-from.ensures.0) s.places,
-      subst (λ x. at w.jobs.turn x ≤ at w.jobs.places x) (sym i.wide-from.ensures.0) s.turn,
-    )
+pub returns-in_err-entry : goal.returns-in_err-entry
+returns-in_err-entry c =
+    let here = (goal.at.returns-in_err-entry c).In_ok-place in
+    let p = eligible_to c.args.w c.picked_from-job.result c.in_ok-place.field-0.destination in
+    let found = ltb-true _ _ (first_any p 512 ∙ some_entry here) in
+    absurd (below_found _ 512 (sym c.in_err-entry.was ∙ c.first_waiting.ensures) (rw (first_is here) found))
 
 pub returns : goal.returns
 returns c =
-    let f = c in
-    let w = f.args.w in
-    let t = f.next_transport-turn.result in
-    let r = turned (goal.at.returns f).Else-not-turn in
-    let p = preempted (goal.at.returns f).After-picked_from-job in
-    all_chosen w f.args.now t.transport t.job t.passed f.find_preemptor-p.result.link f.find_preemptor-p.result.waiting f.picked_from-job.result c.next_place-next.result.place c.first_waiting-entry.result
-    r.finds r.on r.current r.ahead p.0 p.1 f.picked_from-job.ensures (place_at (goal.at.returns c).After-next_place-next).0 (entry_at (goal.at.returns c).After-first_waiting-entry)
+    let here = goal.at.returns c in
+    let w = here.After-left_waiting-waits in
+    let r = turned here.In_ok-transport in
+    let j = job-found here.After-picked_from-job in
+    let place = place_at here.In_ok-place in
+    let entry = entry_read c.args.w (formed w) (right w) c.picked_from-job.result j.0 j.1 j.2 c.in_ok-place.field-0.destination c.in_ok-entry.entry place.1
+    (below_is _ 512 _ (sym c.in_ok-entry.was ∙ c.first_waiting.ensures) ∙ first_is here.In_ok-place) in
+    all_chosen c.args.w c.args.now
+    (record {
+      transport = c.in_ok-transport.field-0.transport;
+      current = c.in_ok-transport.field-0.job;
+      passed = c.in_ok-transport.field-0.passed;
+      preemptor = c.find_preemptor-preemptor.result;
+      job = c.picked_from-job.result;
+      place = c.in_ok-place.field-0.place;
+      entry = c.in_ok-entry.entry;
+    })
+    r.finds r.on r.current r.ahead (preempted here.After-picked_from-job) c.picked_from-job.ensures place.0 entry

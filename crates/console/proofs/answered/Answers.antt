@@ -1,13 +1,16 @@
 -- The state is the line's, or as it was. Assumes nothing.
-use mathlib.Core.Path.{◌∙◌}
-use Rattle.console.proofs.AfterLaws.{after_line_lem, after_end}
+use Rattle.std.proofs.Common.{refl}
+use Rattle.console.specs.Lines.{after_line}
 use Rattle.console.proofs.answered.Goals as goal
 
-pub returns-then-mode-eq0 : goal.returns-then-mode-eq0
-returns-then-mode-eq0 c = after_line_lem _ _ _ _ c.if-mode-eq0.true c.answer_line.ensures.state
+pub returns-in-Whole : goal.returns-in-Whole
+unfolding after_line
+returns-in-Whole c = rw c.in-Whole.is c.answer_line.ensures.state
 
-pub returns-then-mode-eq1 : goal.returns-then-mode-eq1
-returns-then-mode-eq1 c = c.left.ensures.0 ∙ after_end _ _ _ c.if-mode-eq0.false
+pub returns-in-TooLong : goal.returns-in-TooLong
+unfolding after_line
+returns-in-TooLong c = rw c.in-TooLong.is refl
 
-pub returns : goal.returns
-returns c = c.left-2.ensures.0 ∙ after_end _ _ _ c.if-mode-eq0.false
+pub returns-in-TooLongComment : goal.returns-in-TooLongComment
+unfolding after_line
+returns-in-TooLongComment c = rw c.in-TooLongComment.is refl

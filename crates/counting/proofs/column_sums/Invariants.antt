@@ -1,5 +1,5 @@
 -- `counting::column_sums` meets its contract. Invariant: the sums of the rows passed.
-use Prim.Native.Nat.{ℕ, ◌+◌, ◌*◌, ◌-◌, ◌≤◌, ◌<◌}
+use Prim.Native.Nat.{ℕ, ◌+◌, ◌*◌, ◌<◌}
 use mathlib.Core.Path.{◌≡◌}
 use lib.ListN.{length}
 use Rattle.rules.specs.State.{at}
@@ -7,7 +7,4 @@ use Rattle.laws.specs.Range.{sum_to}
 use Rattle.counting.proofs.column_sums.Given as goal
 
 abbrev pub invariant-loop-j : goal.invariant-loop-j
-invariant-loop-j l = (l.j ≤ 32) × (length l.sums ≡ 32) × ((d : ℕ) → d < 32 → at l.sums d ≡ sum_to (λ i. at l.table (32 * i + d)) l.j)
-
-abbrev pub decreases-loop-j : goal.decreases-loop-j
-decreases-loop-j l = 32 - l.j
+invariant-loop-j l = (length l.sums ≡ 32) × ((d : ℕ) → d < 32 → at l.sums d ≡ sum_to (λ i. at l.table (32 * i + d)) l.j)

@@ -1,12 +1,8 @@
 -- `counting::count_entries` meets its contract. Invariant: the entries passed are right, and the tables count them.
-use Prim.Native.Nat.{◌-◌, ◌≤◌}
 use Rattle.counting.specs.Counting.{columns}
 use Rattle.counting.proofs.EntryLaws.{Counted}
 use Rattle.counting.proofs.count_entries.Given as goal
 
 abbrev pub invariant-loop-e : goal.invariant-loop-e
 invariant-loop-e l =
-    Counted (columns l.kind l.job l.destination l.present l.transport l.home l.destinations l.marked) l.e l.pairs l.busy l.to l.on × (l.e ≤ 512)
-
-abbrev pub decreases-loop-e : goal.decreases-loop-e
-decreases-loop-e l = 512 - l.e
+    Counted (columns l.kind l.job l.destination l.present l.transport l.home l.destinations l.marked) l.e l.pairs l.busy l.to l.on

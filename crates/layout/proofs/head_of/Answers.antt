@@ -1,16 +1,28 @@
-use mathlib.Core.Path.{refl}
+use Rattle.std.proofs.Common.{rules}
 use Rattle.laws.specs.Bools.{when◌then◌else◌}
 use Rattle.layout.specs.Layout.{head_of}
 use Rattle.layout.proofs.head_of.Goals as goal
 
-pub returns-then-kind : goal.returns-then-kind
+pub returns-in-1 : goal.returns-in-1
 unfolding head_of when◌then◌else◌
-returns-then-kind c = rw c.if-kind.true refl
+returns-in-1 c = search rules
 
-pub returns-then-kind-2 : goal.returns-then-kind-2
+pub returns-in-1-2 : goal.returns-in-1-2
 unfolding head_of when◌then◌else◌
-returns-then-kind-2 c = rw (c.if-kind.false, c.if-kind-2.true) refl
+returns-in-1-2 c = search rules
 
-pub returns : goal.returns
+pub returns-in-2 : goal.returns-in-2
 unfolding head_of when◌then◌else◌
-returns c = rw (c.if-kind.false, c.if-kind-2.false) refl
+returns-in-2 c = search rules
+
+pub returns-in-2-2 : goal.returns-in-2-2
+unfolding head_of when◌then◌else◌
+returns-in-2-2 c = search rules
+
+pub returns-in_default : goal.returns-in_default
+unfolding head_of when◌then◌else◌
+returns-in_default c = search rules
+
+pub returns-in_default-2 : goal.returns-in_default-2
+unfolding head_of when◌then◌else◌
+returns-in_default-2 c = search rules

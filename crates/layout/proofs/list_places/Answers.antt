@@ -1,18 +1,28 @@
-use Rattle.layout.proofs.LayoutLaws.{head_job, head_five, inside, list_job, list_report, list_none}
-use native.Mathlib.Omega.{arith}
+use Rattle.std.proofs.Common.{rules}
+use Rattle.laws.specs.Bools.{when◌then◌else◌}
+use Rattle.layout.specs.Layout.{head_of, list_places}
 use Rattle.layout.proofs.list_places.Goals as goal
 
 pub bounds-words-3 : goal.bounds-words-3
-bounds-words-3 c = inside (head_job _ c.if-kind-eq1.true) c.requires.0 (omega arith)
-
-pub returns-then-kind-eq1 : goal.returns-then-kind-eq1
-returns-then-kind-eq1 c = list_job _ c.if-kind-eq1.true
+unfolding head_of when◌then◌else◌
+bounds-words-3 c = let h = c.requires.0 in search rules
 
 pub bounds-words-4 : goal.bounds-words-4
-bounds-words-4 c = inside (head_five _ c.if-kind.true) c.requires.0 (omega arith)
+unfolding head_of when◌then◌else◌
+bounds-words-4 c = let h = c.requires.0 in search rules
 
-pub returns-then-kind : goal.returns-then-kind
-returns-then-kind c = list_report _ c.if-kind-eq1.false c.if-kind.true
+pub returns-in-1 : goal.returns-in-1
+unfolding list_places when◌then◌else◌
+returns-in-1 c = search rules
 
-pub returns : goal.returns
-returns c = list_none _ c.if-kind-eq1.false c.if-kind.false
+pub returns-in-3 : goal.returns-in-3
+unfolding list_places when◌then◌else◌
+returns-in-3 c = search rules
+
+pub returns-in_default : goal.returns-in_default
+unfolding list_places when◌then◌else◌
+returns-in_default c = search rules
+
+pub returns-in_default-2 : goal.returns-in_default-2
+unfolding list_places when◌then◌else◌
+returns-in_default-2 c = search rules

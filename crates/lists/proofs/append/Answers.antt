@@ -1,24 +1,18 @@
-use borrow.Author.Rules.{rules}
-use mathlib.Core.Path.{◌≡◌, refl, sym}
-use native.Mathlib.Omega.{arith}
-use lib.ListN.{length, take}
+use Rattle.std.proofs.Common.{◌≡◌, ◌++◌, length, drop, sym, ◌∙◌, arith, rules}
 use lib.Seq.{length-take-le}
+use lib.ListN.{replicate}
 use Rattle.laws.specs.Sequence.{padded}
-use Rattle.laws.proofs.Building.{copy_step, put_at}
+use Rattle.laws.proofs.Building.{put_at}
 use Rattle.laws.proofs.Front.{length_snoc}
-use Rattle.lists.proofs.Listed.{listed_is}
+use Rattle.rules.specs.State.{list_of}
+use Rattle.lists.proofs.Listed.{listed_is, padded_of}
 use Rattle.lists.proofs.append.Goals as goal
-
-pub loop-i-init : goal.loop-i-init
-unfolding padded
-loop-i-init c = (refl, omega arith, search rules)
-
-pub loop-i-preserved : goal.loop-i-preserved
-loop-i-preserved c = (copy_step 32 _ _ _ c.loop-i.invariant.0 (omega arith) (omega arith), omega arith, c.loop-i.invariant.2)
 
 pub returns : goal.returns
 returns c =
-    let l = take c.args.q.count c.args.q.jobs in
-    let e : c.loop-i.i ≡ c.args.q.count = omega arith in
-    let k : length l ≡ c.args.q.count = length-take-le c.args.q.count c.args.q.jobs (omega arith) in
-    listed_is _ _ _ (put_at 32 l _ (rw e at c.loop-i.invariant.0) (sym k) (omega arith)) (omega (arith, length_snoc l c.args.j))
+    let l = list_of c.args.q in
+    let long : length c.args.q.jobs ≡ 32 = search rules in
+    let n : c.from-n.result ≡ length l = c.from-n.ensures ∙ sym (length-take-le c.args.q.count c.args.q.jobs (omega arith)) in
+    let front : c.copy_from_slice.new.self ≡ l = c.copy_from_slice.ensures.after ∙ c.numbers.ensures in
+    let filled : c.copy_from_slice.new.self ++ drop c.from-n.result (replicate 32 0) ≡ padded 32 l = rw (front, n) (padded_of 32 l) in
+    listed_is _ _ _ (put_at 32 l c.args.j filled n (omega arith)) (omega (arith, length_snoc l c.args.j))

@@ -1,67 +1,70 @@
-use borrow.Author.Rules.{rules}
-use Prim.Native.Nat.{◌+◌, ◌<◌}
-use mathlib.Core.Path.{◌≡◌, refl, sym, ◌∙◌}
-use mathlib.Core.Logic.{⊎_elim}
-use native.Mathlib.Omega.{arith}
-use lib.ListN.{take}
-use lib.Seq.{length-take-le}
+use Rattle.std.proofs.Common.{◌≡◌, ◌+◌, ◌<◌, length, refl, sym, ◌∙◌, arith}
+use lib.Seq.{take-length, length-take-le}
 use Rattle.laws.specs.Sequence.{padded}
 use Rattle.laws.proofs.Sequence.{holds_of_times}
 use Rattle.laws.proofs.Move.{length_move}
-use Rattle.lists.proofs.Listed.{listed_is}
+use Rattle.rules.specs.State.{list_of}
+use Rattle.lists.proofs.Listed.{listed_is, few_numbers, once_numbers}
 use Rattle.lists.proofs.Moving.{moved, moved_is, Ready, room_here, ready_here, ready_other, ready_put, skip_put}
 use Rattle.lists.proofs.move_before.Goals as goal
-use Rattle.lists.proofs.move_before.Goals.{After-z-1, Joined-z-y, Then-z-y, else-z-y, then-z-y}
+use Rattle.lists.proofs.move_before.Goals.{At-loop-z, Then-z-x, Then-z-y, Joined-z-y, else-z-y, then-z-y, else-z-x, then-z-x}
 
-pub loop-i-init : goal.loop-i-init
-unfolding padded moved
-loop-i-init c = (refl, refl, omega arith, search rules)
+module _ (c : Then-z-y) where
+  -- where the job to stand behind is met, there is room for two
+  room : c.loop-z.m + 1 < 32
+  room =
+      let few = few_numbers c.args.q _ c.numbers-z-items.ensures c.requires.count_bound in
+      let once = once_numbers c.args.q _ c.args.x c.args.y c.numbers-z-items.ensures c.requires.q_value in
+      room_here c.args.x c.args.y _ c.requires.fact once few c.loop-z.z-index c.loop-z-test.true _ _ c.loop-z.invariant.0 c.loop-z.invariant.1 c.if-z-x.true c.if-z-y.true
 
--- where the job to stand behind is met, there is room for two
-room : (c : Then-z-y) → c.loop-i.m + 1 < 32
-room c =
-    let l = c in
-    let s = l in
-    room_here s.args.x s.args.y s.args.q.count s.args.q.jobs s.requires.fact s.requires.q_value s.requires.count_bound l.loop-i.invariant.3 l.loop-i.i
-    c.loop-i-test.true l.loop-i.jobs l.loop-i.m l.loop-i.invariant.0 l.loop-i.invariant.1 c.if-z-x.true c.if-z-y.true
-
-pub bounds-jobs-m : goal.bounds-jobs-m
-bounds-jobs-m c = omega (arith, room (goal.at.bounds-jobs-m c).Then-z-y)
-
-pub overflow_add-m : goal.overflow_add-m
-overflow_add-m c = omega (arith, room (goal.at.overflow_add-m c).Then-z-y)
-
-ready : (c : Joined-z-y)
-    → Ready c.args.x c.args.y c.args.q.jobs c.loop-i.i c.if-z-y.jobs c.if-z-y.m
+ready : (c : Joined-z-y) → Ready c.args.x c.args.y c.numbers-z-items.result.now c.loop-z.z-index c.if-z-y.jobs c.if-z-y.m
 ready c =
-    let l = c in
-    let s = l in
+    let few = few_numbers c.args.q _ c.numbers-z-items.ensures c.requires.count_bound in
+    let once = once_numbers c.args.q _ c.args.x c.args.y c.numbers-z-items.ensures c.requires.q_value in
     elim c.if-z-y.branch [
-      | then-z-y w ↦ ready_here s.args.x s.args.y s.args.q.count s.args.q.jobs s.requires.fact s.requires.q_value s.requires.count_bound
-          l.loop-i.invariant.3 l.loop-i.i c.loop-i-test.true l.loop-i.jobs l.loop-i.m
-          l.loop-i.invariant.0 l.loop-i.invariant.1 c.if-z-x.true w.if-z-y.true _ _ w.jobs-is w.m-is
-      | else-z-y w ↦ ready_other s.args.x s.args.y s.args.q.count s.args.q.jobs s.requires.fact s.requires.q_value s.requires.count_bound
-          l.loop-i.invariant.3 l.loop-i.i c.loop-i-test.true l.loop-i.jobs
-          l.loop-i.m l.loop-i.invariant.0 l.loop-i.invariant.1 c.if-z-x.true w.if-z-y.false _ _ w.jobs-is w.m-is
+      | then-z-y w ↦ ready_here c.args.x c.args.y _ c.requires.fact once few c.loop-z.z-index c.loop-z-test.true _ _
+          c.loop-z.invariant.0 c.loop-z.invariant.1 c.if-z-x.true w.if-z-y.true _ _ w.jobs-is w.m-is
+      | else-z-y w ↦ ready_other c.args.x c.args.y _ c.requires.fact once few c.loop-z.z-index c.loop-z-test.true _ _
+          c.loop-z.invariant.0 c.loop-z.invariant.1 c.if-z-x.true w.if-z-y.false _ _ w.jobs-is w.m-is
     ]
 
+pub loop-z-init : goal.loop-z-init
+unfolding padded moved
+loop-z-init c = (refl, refl)
+
+pub bounds-jobs-m : goal.bounds-jobs-m
+bounds-jobs-m c = omega (arith, room c)
+
+pub overflow_add-m : goal.overflow_add-m
+overflow_add-m c = omega (arith, room c)
+
 pub bounds-jobs-m-then-z-x : goal.bounds-jobs-m-then-z-x
-bounds-jobs-m-then-z-x c = (ready (goal.at.bounds-jobs-m-then-z-x c).Joined-z-y).room
+bounds-jobs-m-then-z-x c = (ready c).room
 
 pub overflow_add-m-then-z-x : goal.overflow_add-m-then-z-x
 overflow_add-m-then-z-x c = omega (arith, (ready (goal.at.overflow_add-m-then-z-x c).Joined-z-y).room)
 
-pub loop-i-preserved : goal.loop-i-preserved
-loop-i-preserved c =
-    let r = ⊎_elim (λ w. ready_put _ _ (ready (record { before = record { before = (goal.at.loop-i-preserved c).After-z-1; if-z-x = w.if-z-x }; if-z-y = w.if-z-y })) w.jobs-is w.m-is) (λ w. skip_put c.args.x c.args.y c.args.q.jobs
-    c.loop-i.i _ _ _ _ (omega arith) c.loop-i.invariant.0 c.loop-i.invariant.1 w.if-z-x.false w.jobs-is w.m-is) c.if-z-x.branch-raw in
-    (r.0, r.1, omega arith, c.loop-i.invariant.3)
+pub loop-z-preserved : goal.loop-z-preserved
+loop-z-preserved c =
+    let few = few_numbers c.args.q _ c.numbers-z-items.ensures c.requires.count_bound in
+    let once = once_numbers c.args.q _ c.args.x c.args.y c.numbers-z-items.ensures c.requires.q_value in
+    elim c.if-z-x.branch [
+      | then-z-x w ↦
+          ready_put _ _
+          (elim w.if-z-y.branch [
+            | then-z-y v ↦ ready_here c.args.x c.args.y c.numbers-z-items.result.now c.requires.fact once few c.loop-z.z-index c.loop-z-test.true _ _
+                c.loop-z.invariant.0 c.loop-z.invariant.1 w.if-z-x.true v.if-z-y.true _ _ v.jobs-is v.m-is
+            | else-z-y v ↦ ready_other c.args.x c.args.y c.numbers-z-items.result.now c.requires.fact once few c.loop-z.z-index c.loop-z-test.true _ _
+                c.loop-z.invariant.0 c.loop-z.invariant.1 w.if-z-x.true v.if-z-y.false _ _ v.jobs-is v.m-is
+          ])
+          w.jobs-is w.m-is
+      | else-z-x w ↦ skip_put c.args.x c.args.y _ c.loop-z.z-index _ _ _ _ c.loop-z-test.true c.loop-z.invariant.0 c.loop-z.invariant.1 w.if-z-x.false w.jobs-is w.m-is
+    ]
 
 pub returns : goal.returns
 returns c =
-    let s = c in
-    let e : c.loop-i.i ≡ s.args.q.count = omega arith in
-    let l = take s.args.q.count s.args.q.jobs in
-    let r = moved_is s.args.x s.args.y l (omega arith) in
-    let k = length_move s.args.x s.args.y l s.requires.fact s.requires.q_value.0 (holds_of_times s.args.y l (omega arith)) in
-    listed_is _ _ _ (rw (e, r) at c.loop-i.invariant.0) (sym (k ∙ length-take-le s.args.q.count s.args.q.jobs (omega arith)))
+    let l = list_of c.args.q in
+    let all : c.loop-z.z-index ≡ length c.numbers-z-items.result.now = omega arith in
+    let jobs = rw (all, take-length c.numbers-z-items.result.now, c.numbers-z-items.ensures, moved_is c.args.x c.args.y l (omega arith)) at c.loop-z.invariant.0 in
+    let k = length_move c.args.x c.args.y l c.requires.fact c.requires.q_value.0 (holds_of_times c.args.y l (omega arith)) in
+    listed_is _ _ _ jobs (sym (k ∙ length-take-le c.args.q.count c.args.q.jobs (omega arith)))

@@ -10,64 +10,59 @@ bounds-words-0 c = some_words c.requires
 pub make_job-requires : goal.make_job-requires
 make_job-requires c =
     let b = c in
-    (b.requires.room, job_fits b.requires c.if-kind-eq1.true)
+    (b.requires.room, job_fits b.requires c.in-1.is)
 
-pub returns-then-kind-eq1 : goal.returns-then-kind-eq1
-returns-then-kind-eq1 c =
+pub returns-in-1 : goal.returns-in-1
+returns-in-1 c =
     let k = c in
-    answered_job k.requires _ k.if-kind-eq1.true c.make_job.ensures
+    answered_job k.requires _ k.in-1.is c.make_job.ensures
 
 pub bounds-words-1 : goal.bounds-words-1
-bounds-words-1 c = inside (head_pick _ c.if-kind-eq2.true) (head_fits c.requires) (omega arith)
+bounds-words-1 c = inside (head_pick _ c.in-2.is) (head_fits c.requires) (omega arith)
 
 pub make_pick-requires : goal.make_pick-requires
 make_pick-requires c = c.requires.room
 
-pub returns-then-kind-eq2 : goal.returns-then-kind-eq2
-returns-then-kind-eq2 c =
+pub returns-in-2 : goal.returns-in-2
+returns-in-2 c =
     let k = c in
-    answered_pick k.requires _ k.if-kind-eq2.true c.make_pick.ensures
+    answered_pick k.requires _ k.in-2.is c.make_pick.ensures
 
 pub make_report-requires : goal.make_report-requires
 make_report-requires c =
     let b = c in
-    (b.requires.room, inside (head_success _ c.if-kind-eq3.true) (head_fits b.requires) (omega arith))
+    (b.requires.room, inside (head_success _ c.in-3.is) (head_fits b.requires) (omega arith))
 
-pub returns-then-kind-eq3 : goal.returns-then-kind-eq3
-returns-then-kind-eq3 c =
+pub returns-in-3 : goal.returns-in-3
+returns-in-3 c =
     let k = c in
-    answered_success k.requires _ k.if-kind-eq3.true c.make_report.ensures
+    answered_success k.requires _ k.in-3.is c.make_report.ensures
 
-pub make_report-requires-then-kind-eq4 : goal.make_report-requires-then-kind-eq4
-make_report-requires-then-kind-eq4 c =
+pub make_report-requires-in-4 : goal.make_report-requires-in-4
+make_report-requires-in-4 c =
     let b = c in
-    (b.requires.room, inside (head_failure _ c.if-kind-eq4.true) (head_fits b.requires) (omega arith))
+    (b.requires.room, inside (head_failure _ c.in-4.is) (head_fits b.requires) (omega arith))
 
-pub returns-then-kind-eq4 : goal.returns-then-kind-eq4
-returns-then-kind-eq4 c =
+pub returns-in-4 : goal.returns-in-4
+returns-in-4 c =
     let k = c in
-    answered_failure k.requires _ k.if-kind-eq4.true c.make_report-then-kind-eq4.ensures
+    answered_failure k.requires _ k.in-4.is c.make_report-in-4.ensures
 
-pub bounds-words-1-then-kind-eq5 : goal.bounds-words-1-then-kind-eq5
-bounds-words-1-then-kind-eq5 c = inside (head_ask _ c.if-kind-eq5.true) (head_fits c.requires) (omega arith)
+pub bounds-words-1-in-5 : goal.bounds-words-1-in-5
+bounds-words-1-in-5 c = inside (head_ask _ c.in-5.is) (head_fits c.requires) (omega arith)
 
 pub make_ask-requires : goal.make_ask-requires
 make_ask-requires c = c.requires.room
 
-pub returns-then-kind-eq5 : goal.returns-then-kind-eq5
-returns-then-kind-eq5 c =
+pub returns-in-5 : goal.returns-in-5
+returns-in-5 c =
     let k = c in
-    answered_ask k.requires _ k.if-kind-eq5.true c.make_ask.ensures
+    answered_ask k.requires _ k.in-5.is c.make_ask.ensures
 
 pub make_board-requires : goal.make_board-requires
 make_board-requires c = c.requires.room
 
-pub returns : goal.returns
-returns c =
-    let k = c in
-    let four = k in
-    let three = four in
-    let two = three in
-    let b = four in
-    let kind = last_kind _ b.requires.known two.if-kind-eq1.false two.if-kind-eq2.false three.if-kind-eq3.false four.if-kind-eq4.false k.if-kind-eq5.false in
-    answered_board b.requires _ kind c.make_board.ensures
+pub returns-in_default : goal.returns-in_default
+returns-in_default c =
+    let kind = last_kind _ c.requires.known (omega arith) (omega arith) (omega arith) (omega arith) (omega arith) in
+    answered_board c.requires _ kind c.make_board.ensures

@@ -1,5 +1,11 @@
+use mathlib.Core.Path.{sym, ap, ◌∙◌}
+use Rattle.rules.specs.Answers.{number_says}
+use Rattle.layout.specs.Layout.{answer_row}
 use Rattle.making.proofs.MadeLaws.{made}
 use Rattle.making.proofs.make_ask.Goals as goal
 
-pub returns : goal.returns
-returns c = made _ _ _ c.ask-a.ensures c.put_ask.ensures
+pub returns-in-Ok : goal.returns-in-Ok
+returns-in-Ok c = made _ _ _ c.ask.ensures (c.put_number.ensures ∙ sym (ap (λ x. answer_row (number_says x)) c.in-Ok.is))
+
+pub returns-in-Err : goal.returns-in-Err
+returns-in-Err c = made _ _ _ c.ask.ensures (c.put_number-in-Err.ensures ∙ sym (ap (λ x. answer_row (number_says x)) c.in-Err.is))

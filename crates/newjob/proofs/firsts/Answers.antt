@@ -1,58 +1,34 @@
-use mathlib.Core.Bool.{false}
-use mathlib.Core.Path.{◌≡◌}
-use native.Mathlib.Omega.{arith}
-use lib.ListN.{get_or}
-use borrow.Author.Tests.{not-true, not-false}
+use Rattle.std.proofs.Common.{◌≡◌, length, arith}
 use Rattle.laws.specs.Sequence.{padded}
 use Rattle.laws.proofs.Firsts.{firsts_length}
-use Rattle.rules.specs.State.{at}
+use Rattle.rules.specs.Taking.{new_order}
 use Rattle.newjob.proofs.Ordering.{seen_none, seen_room, seen_new, seen_again}
 use Rattle.newjob.proofs.firsts.Goals as goal
-use Rattle.newjob.proofs.firsts.Goals.{else-not-seen-k, then-not-seen-k}
+use Rattle.newjob.proofs.firsts.Goals.{else-not-seen-d, then-not-seen-d}
 
-pub loop-i-init : goal.loop-i-init
+pub loop-d-init : goal.loop-d-init
 unfolding padded
-loop-i-init c = (seen_none c.args.kept.now, omega arith)
-
-pub bounds-seen-k : goal.bounds-seen-k
-bounds-seen-k c = rw c.wide-k.ensures.0 (c.requires.1 _ c.loop-i-test.true)
-
-pub bounds-seen-k-then-not-seen-k : goal.bounds-seen-k-then-not-seen-k
-bounds-seen-k-then-not-seen-k c = rw c.wide-k.ensures.0 (c.requires.1 _ c.loop-i-test.true)
+loop-d-init c = seen_none c.args.kept.now
 
 pub bounds-places-m : goal.bounds-places-m
-bounds-places-m c =
-    let turn = c.loop-i in
-    let start = c in
-    seen_room turn.invariant.0 (λ k h. start.requires.1 k (omega arith)) (rw c.wide-k.ensures.0 at (not-true (get_or turn.seen c.wide-k.result false) c.if-not-seen-k.true-raw))
+bounds-places-m c = seen_room c.loop-d.invariant (λ k h. c.requires k (omega arith)) c.if-not-seen-d.true
 
 pub overflow_add-m : goal.overflow_add-m
-overflow_add-m c =
-    let turn = c.loop-i in
-    let start = c in
-    omega (arith, seen_room turn.invariant.0 (λ k h. start.requires.1 k (omega arith)) (rw c.wide-k.ensures.0 at (not-true (get_or turn.seen c.wide-k.result false) c.if-not-seen-k.true-raw)))
+overflow_add-m c = omega (arith, seen_room c.loop-d.invariant (λ k h. c.requires k (omega arith)) c.if-not-seen-d.true)
 
-pub loop-i-preserved : goal.loop-i-preserved
-loop-i-preserved c =
-    let turn = c.loop-i in
-    let start = c in
-    let d = c.wide-k in (
-      elim c.if-not-seen-k.branch [
-        | then-not-seen-k w ↦ let fresh = rw d.ensures.0 at (not-true (get_or turn.seen d.result false) w.if-not-seen-k.true-raw) in
-            seen_new turn.invariant.0 (λ k h. start.requires.1 k (omega arith)) fresh (rw d.ensures.0 at w.seen-is) w.places-is w.m-is
-        | else-not-seen-k w ↦ let seen = rw d.ensures.0 at (not-false (get_or turn.seen d.result false) w.if-not-seen-k.false-raw) in
-            seen_again turn.invariant.0 (λ k h. start.requires.1 k (omega arith)) seen w.seen-is w.places-is w.m-is
-      ],
-      omega arith,
-    )
+pub loop-d-preserved : goal.loop-d-preserved
+loop-d-preserved c =
+    elim c.if-not-seen-d.branch [
+      | then-not-seen-d w ↦ seen_new c.loop-d.invariant (λ k h. c.requires k (omega arith)) w.if-not-seen-d.true w.seen-is w.places-is w.m-is
+      | else-not-seen-d w ↦ seen_again c.loop-d.invariant (λ k h. c.requires k (omega arith)) w.if-not-seen-d.false w.seen-is w.places-is w.m-is
+    ]
 
 pub overflow_cast-result : goal.overflow_cast-result
 overflow_cast-result c =
-    let turn = c.loop-i in
-    let start = c in
-    omega (arith, firsts_length start.args.kept.now turn.i 32 (λ k h. start.requires.1 k (omega arith)), turn.invariant.0.count)
+    omega (arith, firsts_length c.args.kept.now c.loop-d.d-index 32 (λ k h. c.requires k (omega arith)), c.loop-d.invariant.count)
 
 pub returns : goal.returns
+unfolding new_order
 returns c =
-    let e : c.loop-i.i ≡ c.args.n = omega arith in
-    (rw e at c.loop-i.invariant.0.built, rw e at c.loop-i.invariant.0.count)
+    let all : c.loop-d.d-index ≡ length c.args.kept.now = omega arith in
+    (rw all at c.loop-d.invariant.built, rw all at c.loop-d.invariant.count)

@@ -1,4 +1,5 @@
 -- The calls are those of the record's case. Assumes nothing.
+use Rattle.std.proofs.Common.{refl}
 use Rattle.playing.specs.Plays.{call_told}
 use Rattle.playing.proofs.PlayLaws.{as_told, none_played}
 use Rattle.playing.proofs.play.Goals as goal
@@ -6,7 +7,7 @@ use Rattle.playing.proofs.play.Goals as goal
 pub returns-in-Name : goal.returns-in-Name
 unfolding call_told
 returns-in-Name c =
-    let r = as_told _ _ c.in-Name.is (none_played _ c.left.ensures) in
+    let r = as_told _ _ c.in-Name.is (none_played _ (refl, refl)) in
     record { state = r.0; text = r.1 }
 
 pub returns-in-Job : goal.returns-in-Job

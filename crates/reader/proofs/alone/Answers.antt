@@ -1,5 +1,5 @@
 -- The array is all zeros. Assumes nothing.
-use mathlib.Core.Path.{refl}
+use Rattle.std.proofs.Common.{refl}
 use Rattle.laws.specs.Sequence.{padded}
 use Rattle.reader.proofs.alone.Goals as goal
 

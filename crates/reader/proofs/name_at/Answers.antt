@@ -1,45 +1,36 @@
 -- A name stands just before its record's end. Assumes nothing.
-use mathlib.Core.Path.{refl}
-use Rattle.reader.proofs.ReadingLaws.{part_of, start_of, none_told, no_name_told, part_within, part_told}
+use Rattle.std.proofs.Common.{◌≡◌, ◌-◌, ◌∙◌, ap, Ok, Some, arith}
+use Rattle.std.specs.Option.{option_flatten}
+use Rattle.journal.specs.Records.{read_at}
+use Rattle.journal.specs.Told.{answer_of}
+use Rattle.reader.proofs.ReadingLaws.{NamePart, name_told, told_none, told_some, told_other}
 use Rattle.reader.proofs.name_at.Goals as goal
+use Rattle.reader.proofs.name_at.Goals.{In-Some, In-Name}
 
-pub overflow_sub-start : goal.overflow_sub-start
-overflow_sub-start c = (part_within _ _ c.read_at-r.ensures c.in-Whole.is c.in-Name.is).0
+pub returns-in_default : goal.returns-in_default
+returns-in_default c =
+    let r = told_none _ c.read_at.result.answer c.read_at.ensures.answer (c.in_default.ensures ∙ ap option_flatten c.ok.ensures.value) c.args.journal.ref_ptr in
+    record { bytes = r.0; place = r.1 }
 
-pub slice_bounds-result-end : goal.slice_bounds-result-end
-slice_bounds-result-end c = (part_within _ _ c.read_at-r.ensures c.in-Whole.is c.in-Name.is).1
+told : (c : In-Some) → let a = c.args in Ok (Some c.in-Some.found) ≡ answer_of (read_at a.journal.now a.offset)
+told c = told_some _ c.read_at.result.answer c.read_at.ensures.answer (c.in-Some.ensures ∙ ap option_flatten c.ok.ensures.value)
+
+pub returns-in_default-what : goal.returns-in_default-what
+returns-in_default-what c =
+    let r = told_other _ (told (goal.at.returns-in_default-what c).In-Some) c.in_default-what.not-Name c.args.journal.ref_ptr in
+    record { bytes = r.0; place = r.1 }
+
+part : (c : In-Name) → let a = c.args in NamePart a.journal.now (read_at a.journal.now a.offset) c.in-Name.length c.in-Some.found.next
+part c = name_told _ _ (told (goal.at.In-Name c).In-Some) c.in-Name.is
+
+pub overflow_sub-result : goal.overflow_sub-result
+overflow_sub-result c = (part (goal.at.overflow_sub-result c).In-Name).before
+
+pub slice_bounds-result-end-in-Name : goal.slice_bounds-result-end-in-Name
+slice_bounds-result-end-in-Name c = (part (goal.at.slice_bounds-result-end-in-Name c).In-Name).within
 
 pub returns-in-Name : goal.returns-in-Name
 returns-in-Name c =
-    let r = part_told _ _ c.read_at-r.ensures c.in-Whole.is c.in-Name.is _ in
-    record { bytes = r.0; place = r.1 }
-
-pub returns-in-Job : goal.returns-in-Job
-unfolding part_of start_of
-returns-in-Job c =
-    let r = no_name_told _ _ c.read_at-r.ensures c.in-Whole.is _ c.in-Job.is refl refl in
-    record { bytes = r.0; place = r.1 }
-
-pub returns-in-Pick : goal.returns-in-Pick
-unfolding part_of start_of
-returns-in-Pick c =
-    let r = no_name_told _ _ c.read_at-r.ensures c.in-Whole.is _ c.in-Pick.is refl refl in
-    record { bytes = r.0; place = r.1 }
-
-pub returns-in-Report : goal.returns-in-Report
-unfolding part_of start_of
-returns-in-Report c =
-    let r = no_name_told _ _ c.read_at-r.ensures c.in-Whole.is _ c.in-Report.is refl refl in
-    record { bytes = r.0; place = r.1 }
-
-pub returns-in-End : goal.returns-in-End
-unfolding part_of start_of
-returns-in-End c =
-    let r = none_told _ _ c.read_at-r.ensures _ c.in-End.is refl refl in
-    record { bytes = r.0; place = r.1 }
-
-pub returns-in-Refused : goal.returns-in-Refused
-unfolding part_of start_of
-returns-in-Refused c =
-    let r = none_told _ _ c.read_at-r.ensures _ c.in-Refused.is refl refl in
-    record { bytes = r.0; place = r.1 }
+    let p = part (goal.at.returns-in-Name c).In-Name in
+    let whole : c.in-Some.found.next - (c.in-Some.found.next - c.in-Name.length) ≡ c.in-Name.length = omega (arith, p.before) in
+    record { bytes = rw whole p.is; place = ap (λ k. (c.args.journal.ref_ptr.0, k)) (omega (arith, p.start)) }

@@ -1,13 +1,15 @@
 -- One field. Assumes nothing.
-use mathlib.Core.Path.{sym, ◌∙◌, ap}
+use Rattle.std.proofs.Common.{sym, refl}
+use Rattle.std.proofs.lemmas.Result.{err_from_is_err_and}
 use Rattle.journal.specs.Told.{record_of, answer_of}
-use Rattle.fields.proofs.FieldLaws.{is_read, is_faulty}
-use Rattle.reader.proofs.RecordLaws.{pick_clock, pick_whole}
+use Rattle.reader.proofs.RecordLaws.{stops, pick_clock, pick_whole}
 use Rattle.reader.proofs.read_pick.Goals as goal
 
-pub returns-then-clock-ne0 : goal.returns-then-clock-ne0
-returns-then-clock-ne0 c = c.refused.ensures ∙ sym (ap answer_of (pick_clock _ _ _ (is_faulty _ _ _ c.number-clock.ensures c.if-clock-ne0.true)))
+pub returns-in_err-clock : goal.returns-in_err-clock
+returns-in_err-clock c = λ start.
+    let p = err_from_is_err_and c.from_residual.result c.from_residual.ensures.1 in
+    rw (p.1, p.2) (stops (pick_clock _ start _ (sym c.in_err-clock.ensures)))
 
 pub returns : goal.returns
 unfolding record_of answer_of
-returns c = sym (ap answer_of (pick_whole _ _ _ (is_read _ _ _ c.number-clock.ensures c.if-clock-ne0.false)))
+returns c = λ start. rw (pick_whole _ start _ (sym c.in_ok-clock.ensures)) refl

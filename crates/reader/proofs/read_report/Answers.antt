@@ -1,43 +1,42 @@
--- Field by field: k, e, t and o are the places behind the test of the clock, the entry, the ticket and the outcome. Assumes nothing.
-use mathlib.Core.Path.{sym, ◌∙◌, ap}
-use Rattle.journal.specs.Told.{answer_of}
-use Rattle.fields.proofs.FieldLaws.{is_read, is_faulty}
-use Rattle.reader.proofs.RecordLaws.{report_clock, report_entry, report_ticket, report_outcome_lem, report_whole}
+-- Field by field. Assumes nothing.
+use Rattle.std.proofs.Common.{sym, refl, arith}
+use Rattle.std.proofs.lemmas.Result.{err_from_is_err_and}
+use Rattle.rules.specs.Setup.{within}
+use Rattle.rules.proofs.RangeFacts.{within_facts}
+use Rattle.journal.specs.Told.{record_of, answer_of}
+use Rattle.reader.proofs.RecordLaws.{stops, in_range, outcome_told, report_clock, report_entry, report_ticket, report_outcome_lem, report_whole}
 use Rattle.reader.proofs.read_report.Goals as goal
 
-pub returns-then-clock-ne0 : goal.returns-then-clock-ne0
-returns-then-clock-ne0 c = c.refused.ensures ∙ sym (ap answer_of (report_clock _ _ _ (is_faulty _ _ _ c.number-clock.ensures c.if-clock-ne0.true)))
+pub returns-in_err-clock : goal.returns-in_err-clock
+returns-in_err-clock c = λ start.
+    let p = err_from_is_err_and c.from_residual.result c.from_residual.ensures.1 in
+    rw (p.1, p.2) (stops (report_clock _ start _ (sym c.in_err-clock.ensures)))
 
-pub returns-then-entry-ne0 : goal.returns-then-entry-ne0
-returns-then-entry-ne0 c =
-    let k = c in
-    c.refused-then-entry-ne0.ensures
-    ∙ sym (ap answer_of (report_entry _ _ _ (is_read _ _ _ k.number-clock.ensures k.if-clock-ne0.false)
-    (is_faulty _ _ _ c.number-entry.ensures c.if-entry-ne0.true)))
+pub returns-in_err-entry : goal.returns-in_err-entry
+returns-in_err-entry c = λ start.
+    let p = err_from_is_err_and c.from_residual-in_err-entry.result c.from_residual-in_err-entry.ensures.1 in
+    rw (p.1, p.2) (stops (report_entry _ start _ (sym c.in_ok-clock.ensures) (sym c.in_err-entry.ensures)))
 
-pub returns-then-ticket-ne0 : goal.returns-then-ticket-ne0
-returns-then-ticket-ne0 c =
-    let e = c in
-    let k = e in
-    c.refused-then-ticket-ne0.ensures
-    ∙ sym (ap answer_of (report_ticket _ _ _ (is_read _ _ _ k.number-clock.ensures k.if-clock-ne0.false) (is_read _ _ _ e.number-entry.ensures e.if-entry-ne0.false)
-    (is_faulty _ _ _ c.number-ticket.ensures c.if-ticket-ne0.true)))
+pub returns-in_err-ticket : goal.returns-in_err-ticket
+returns-in_err-ticket c = λ start.
+    let p = err_from_is_err_and c.from_residual-in_err-ticket.result c.from_residual-in_err-ticket.ensures.1 in
+    rw (p.1, p.2) (stops (report_ticket _ start _ (sym c.in_ok-clock.ensures) (sym c.in_ok-entry.ensures) (sym c.in_err-ticket.ensures)))
 
-pub returns-then-outcome-ne0 : goal.returns-then-outcome-ne0
-returns-then-outcome-ne0 c =
-    let t = c in
-    let e = t in
-    let k = e in
-    c.refused-then-outcome-ne0.ensures
-    ∙ sym (ap answer_of (report_outcome_lem _ _ _ (is_read _ _ _ k.number-clock.ensures k.if-clock-ne0.false) (is_read _ _ _ e.number-entry.ensures e.if-entry-ne0.false)
-    (is_read _ _ _ t.number-ticket.ensures t.if-ticket-ne0.false) (is_faulty _ _ _ c.ranged-outcome.ensures c.if-outcome-ne0.true)))
+pub returns-in_err-outcome : goal.returns-in_err-outcome
+returns-in_err-outcome c = λ start.
+    let p = err_from_is_err_and c.from_residual-in_err-outcome.result c.from_residual-in_err-outcome.ensures.1 in
+    rw (p.1, p.2) (stops (report_outcome_lem _ start _ (sym c.in_ok-clock.ensures) (sym c.in_ok-entry.ensures) (sym c.in_ok-ticket.ensures)
+    (sym c.in_err-outcome.ensures)))
+
+pub returns-in_err-try_from : goal.returns-in_err-try_from
+returns-in_err-try_from c =
+    let low = within_facts {low = 0} {high = 1} (in_range (within 0 1) _ (sym c.in_ok-outcome.ensures)) in
+    absurd (omega (arith, c.in_err-try_from.ensures.0, low.1))
 
 pub returns : goal.returns
-returns c =
-    let o = c in
-    let t = o in
-    let e = t in
-    let k = e in
-    c.reported.ensures
-    ∙ sym (ap answer_of (report_whole _ _ _ (is_read _ _ _ k.number-clock.ensures k.if-clock-ne0.false) (is_read _ _ _ e.number-entry.ensures e.if-entry-ne0.false)
-    (is_read _ _ _ t.number-ticket.ensures t.if-ticket-ne0.false) (is_read _ _ _ o.ranged-outcome.ensures o.if-outcome-ne0.false)))
+unfolding record_of answer_of
+returns c = λ start.
+    rw (
+      report_whole _ start _ (sym c.in_ok-clock.ensures) (sym c.in_ok-entry.ensures) (sym c.in_ok-ticket.ensures) (sym c.in_ok-outcome.ensures),
+      outcome_told _ c.in_ok-try_from.ensures,
+    ) refl

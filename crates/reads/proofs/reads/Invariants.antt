@@ -1,8 +1,6 @@
--- The measure is the rounds that are left. Assumes nothing.
+-- A round counts one at most. Assumes nothing.
+use Rattle.std.proofs.Common.{◌≤◌}
 use Rattle.reads.proofs.reads.Given as goal
 
-abbrev pub invariant-loop-left : goal.invariant-loop-left
-invariant-loop-left l = Unit
-
-abbrev pub decreases-loop-left : goal.decreases-loop-left
-decreases-loop-left l = l.left
+abbrev pub invariant-loop : goal.invariant-loop
+invariant-loop l = l.good ≤ l.counter

@@ -1,18 +1,22 @@
-use native.Mathlib.Omega.{arith}
-use Rattle.replay.proofs.BudgetLaws.{digits_start, digits_end, below_digits, above_digits, digits_more}
+use Rattle.std.proofs.Common.{◌≡◌, ◌∙◌, sym, arith, rules, tests}
+use Rattle.std.proofs.Common.{ℕ, ◌<◌, eqb, length, false}
+use borrow.Author.Tests.{eqb-true, eqb-false}
+use Rattle.std.proofs.lemmas.Iterator.{YieldsList-from_slice}
+use Rattle.std.proofs.lemmas.Iterator.Search.{all_from_yields_List}
+use Rattle.laws.proofs.Iterated.{every_in_all}
+use Rattle.lines.specs.Words.{is_digit}
+use Rattle.replay.proofs.BudgetLaws.{decimal_of, decimal_none}
 use Rattle.replay.proofs.is_decimal.Goals as goal
 
-pub loop-i-init : goal.loop-i-init
-loop-i-init c = digits_start _
+nonzero : {n : ℕ} → eqb n 0 ≡ false → 0 < n
+nonzero {n} h = omega (arith, eqb-false n 0 h)
 
-pub returns-then-b-lt48 : goal.returns-then-b-lt48
-returns-then-b-lt48 c = below_digits _ _ c.loop-i-test.true c.if-b-lt48.true
+pub returns-then-not-is_empty : goal.returns-then-not-is_empty
+returns-then-not-is_empty c =
+    let e = all_from_yields_List is_digit _ _ _ c.all.ensures.ran (YieldsList-from_slice c.args.word.now cc) (λ x b q k. search (rules, tests)) in
+    decimal_of c.args.word.now (nonzero (sym c.is_empty.ensures ∙ c.if-not-is_empty.true)) (e ∙ sym (every_in_all is_digit c.args.word.now))
 
-pub returns-then-b-gt57 : goal.returns-then-b-gt57
-returns-then-b-gt57 c = above_digits _ _ c.loop-i-test.true c.if-b-gt57.true
-
-pub loop-i-preserved : goal.loop-i-preserved
-loop-i-preserved c = digits_more _ _ c.loop-i-test.true c.loop-i.invariant (omega arith) (omega arith)
-
-pub returns : goal.returns
-returns c = digits_end _ _ c.loop-i.invariant (omega arith)
+pub returns-else-not-is_empty : goal.returns-else-not-is_empty
+returns-else-not-is_empty c =
+    let empty = eqb-true (length c.args.word.now) 0 (sym c.is_empty.ensures ∙ c.if-not-is_empty.false) in
+    rw c.if-not-is_empty.false (decimal_none c.args.word.now empty)

@@ -3,4 +3,4 @@ use native.Mathlib.Omega.{arith}
 use Rattle.replay.proofs.text_of.Goals as goal
 
 pub returns : goal.returns
-returns c = c.replay-r.ensures.whole (omega arith)
+returns c = c.replay.ensures.whole (omega arith)

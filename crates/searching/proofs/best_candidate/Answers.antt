@@ -1,182 +1,130 @@
-use Prim.Native.Nat.{ℕ, ◌+◌, ◌-◌, ◌*◌, ◌≤◌, ◌<◌}
-use mathlib.Core.Path.{◌≡◌, refl, sym, ◌∙◌, ap}
-use mathlib.Core.Bool.{Bool, true, false, not, ◌&&◌}
-use native.Mathlib.Omega.{arith}
-use lib.Dec.{eqb, leb, ltb, lit≤}
-use lib.ListN.{get_or}
+use Rattle.std.proofs.Common.{ℕ, suc, ◌≡◌, ◌+◌, ◌-◌, ◌*◌, ◌≤◌, ◌<◌, refl, sym, ap, ◌∙◌, rules, Bool, true, false, not, ◌&&◌, eqb, leb, ltb, length, get_or, arith}
+use lib.Seq.{get_or-take, length-take-le}
+use Rattle.laws.proofs.Bools.{and_both, and_left_false, and_right_false}
 use Rattle.rules.specs.State.{at}
 use Rattle.eligibility.specs.Eligibility.{ready_in}
-use Rattle.searching.proofs.Sizes.{next_fits, age_is, age_small, index_fits}
-use Rattle.searching.proofs.Scores.{tests_read}
+use Rattle.searching.specs.Searching.{link_to}
+use Rattle.searching.proofs.Sizes.{age_is, age_small}
+use Rattle.searching.proofs.Scores.{able_at, tests_read}
 use Rattle.searching.proofs.Searches.{SearchedTo, search_begins, search_is, link_below, search_done, passed_by, search_stops, search_keeps, search_leads}
 use Rattle.searching.proofs.best_candidate.Goals as goal
-use Rattle.searching.proofs.best_candidate.Goals.{After-wide-k, After-wide32}
-use Rattle.searching.proofs.best_candidate.Goals.{then-jobs-k+else-not_above+then-leads, then-jobs-k+else-not_above+else-leads, else-jobs-k}
+use Rattle.searching.proofs.best_candidate.Goals.{After-numbers-order, After-from-k}
+use Rattle.searching.proofs.best_candidate.Goals.{then-jobs-k+else-not_above+then-candidate+then-greater+then-is_ready, then-jobs-k+else-not_above+else-candidate, else-candidate-via-then-candidate+then-greater+else-is_ready, else-candidate-via-then-candidate+else-greater, else-candidate-via-else-candidate, else-jobs-k}
 
-pub overflow_cast-n : goal.overflow_cast-n
-overflow_cast-n c = omega (arith, c.requires.1)
-
-pub overflow_add-next : goal.overflow_add-next
-overflow_add-next c = next_fits c.args.time c.requires.0
+-- the walk goes over the whole list
+ranks : (c : After-numbers-order) → length c.numbers-order.result.now ≡ c.args.arrivals.now.count
+ranks c = ap length c.numbers-order.ensures ∙ length-take-le c.args.arrivals.now.count c.args.arrivals.now.jobs (omega (arith, c.requires.1, c.requires.2))
 
 -- the job at a rank of the list
-here : (c : After-wide-k) → (c.wide-k.result < 32) × (at c.args.arrivals.jobs c.loop-i.i < 32)
-    × (at c.args.jobs.arrival (at c.args.arrivals.jobs c.loop-i.i) ≤ c.args.time)
+pub record Here (c : After-from-k) : Type 0 where
+  rank : c.loop-x.x-index < c.args.arrivals.now.count
+  is : get_or c.numbers-order.result.now c.loop-x.x-index 0 ≡ at c.args.arrivals.now.jobs c.loop-x.x-index
+  below : get_or c.numbers-order.result.now c.loop-x.x-index 0 < 32
+  came : at c.args.jobs.now.arrival (get_or c.numbers-order.result.now c.loop-x.x-index 0) ≤ c.args.time
+
+here : (c : After-from-k) → Here c
 here c =
-    let p = c.requires.3.1 c.loop-i.i c.loop-i-test.true in
-    (omega (arith, c.wide-k.ensures.0, p.0), p.0, p.1)
+    let l : c.loop-x.x-index < c.args.arrivals.now.count = omega (arith, ranks (goal.at.After-from-k c).After-numbers-order) in
+    let e : get_or c.numbers-order.result.now c.loop-x.x-index 0 ≡ at c.args.arrivals.now.jobs c.loop-x.x-index =
+    ap (λ o. get_or o c.loop-x.x-index 0) c.numbers-order.ensures ∙ get_or-take c.args.arrivals.now.count c.args.arrivals.now.jobs c.loop-x.x-index 0 l in
+    let p = c.requires.3.1 c.loop-x.x-index l in
+    record { rank = l; is = e; below = omega (arith, p.0, e); came = rw e p.1 }
 
--- its arrival
-arrival-is : (c : After-wide32)
-    → c.wide32.result ≡ at c.args.jobs.arrival (at c.args.arrivals.jobs c.loop-i.i)
-arrival-is c = c.wide32.ensures ∙ ap (at c.args.jobs.arrival) c.wide-k.ensures.0
+-- What is known of a job of the transport, by its second and what waits of it: the search stops there, or leaves the best as it is, or the job leads.
+module _ (c : After-from-k) (second : ℕ) (arrived : second ≡ at c.args.jobs.now.arrival c.from-k.result) (on : at c.args.jobs.now.transport c.from-k.result ≡ c.args.t)
+    (above : Bool) (aboves : above ≡ leb ((c.args.time + 1 - second) * c.loop-x.of) c.loop-x.than)
+  where
+    abbrev x : ℕ
+    x = get_or c.numbers-order.result.now c.loop-x.x-index 0
 
--- its transport
-on : (c : After-wide32)
-    → at c.args.jobs.transport (at c.args.arrivals.jobs c.loop-i.i) ≡ c.args.t
-on c = sym (ap (at c.args.jobs.transport) c.wide-k.ensures.0) ∙ c.if-jobs-k.true
+    abbrev age : ℕ
+    age = c.args.time + 1 - second
 
-pub loop-i-init : goal.loop-i-init
-loop-i-init c = (refl, search_begins _ _ _ _ _ _ _ _)
+    seen : second ≡ at c.args.jobs.now.arrival x
+    seen = arrived ∙ ap (at c.args.jobs.now.arrival) c.from-k.ensures
 
-pub bounds-arrivals-i : goal.bounds-arrivals-i
-bounds-arrivals-i c = omega (arith, c.loop-i-test.true, c.requires.1)
+    theirs : at c.args.jobs.now.transport x ≡ c.args.t
+    theirs = sym (ap (at c.args.jobs.now.transport) c.from-k.ensures) ∙ on
 
-pub bounds-jobs-k : goal.bounds-jobs-k
-bounds-jobs-k c = (here (goal.at.bounds-jobs-k c).After-wide-k).0
+    waited : age ≡ c.args.time - at c.args.jobs.now.arrival x + 1
+    waited = ap (λ z. c.args.time + 1 - z) seen ∙ age_is c.args.time (at c.args.jobs.now.arrival x) (here c).came
 
-pub offset_bounds-jobs-k : goal.offset_bounds-jobs-k
-offset_bounds-jobs-k c = let i = c in index_fits i.wide-k.result 4 i.wide-k.ensures.1 (lit≤ tt)
+    -- what is asked of it before it is looked at, and before it leads
+    module _ (goes : above ≡ false) (m : ℕ) (is : m ≡ at c.args.tables.waits.now c.from-k.result) (size : m < 65536) (able ahead : Bool)
+        (ables : able ≡ (not (eqb (get_or c.numbers-order.result.now c.loop-x.x-index 0) c.args.y) && eqb (at c.args.jobs.now.picked c.from-k.result) 0
+        && not (get_or c.args.jobs.now.preempted c.from-k.result false) && leb m c.args.most))
+        (aheads : ahead ≡ ltb (c.loop-x.than * m) ((c.args.time + 1 - second) * c.loop-x.of))
+      where
+        abbrev ready : Bool
+        ready = get_or (ready_in c.args.tables.pairs.now c.args.tables.room.now) c.from-k.result false
 
-pub bounds-jobs-k-then-jobs-k : goal.bounds-jobs-k-then-jobs-k
-bounds-jobs-k-then-jobs-k c = (here (goal.at.bounds-jobs-k-then-jobs-k c).After-wide-k).0
+        counted : m ≡ at c.args.tables.waits.now x
+        counted = is ∙ ap (at c.args.tables.waits.now) c.from-k.ensures
 
-pub overflow_sub-age : goal.overflow_sub-age
-overflow_sub-age c = omega (arith, arrival-is (goal.at.overflow_sub-age c).After-wide32, (here (goal.at.overflow_sub-age c).After-wide-k).2)
+        tests : (able && ahead) && ready ≡ (able_at c.args.jobs.now c.args.tables.waits.now c.args.y c.args.most x && ahead) && get_or (ready_in c.args.tables.pairs.now c.args.tables.room.now) x false
+        tests = tests_read c.args.jobs.now c.args.tables.waits.now (ready_in c.args.tables.pairs.now c.args.tables.room.now) c.args.y c.args.most x c.from-k.result m able ahead c.from-k.ensures is ables
 
--- its wait plus 1, which is small enough for the products
-waited : (c : After-wide32)
-    → let g = c.args in
-    (g.time + 1 - c.wide32.result ≤ 4294967296)
-    × (g.time + 1 - c.wide32.result ≡ g.time - at g.jobs.arrival (at g.arrivals.jobs c.loop-i.i) + 1)
-waited c =
-    let s = c in (
-      age_small s.args.time c.wide32.result s.requires.0,
-      ap (λ z. s.args.time + 1 - z) (arrival-is c) ∙ age_is s.args.time (at s.args.jobs.arrival (at s.args.arrivals.jobs c.loop-i.i)) (here (goal.at.After-wide32 c).After-wide-k).2,
-    )
+        leads : (able && ahead) && ready ≡ true
+            → SearchedTo c.args.jobs.now c.args.arrivals.now c.args.tables.waits.now (ready_in c.args.tables.pairs.now c.args.tables.room.now) c.args.time c.args.t c.args.y c.args.most
+            (suc (get_or c.numbers-order.result.now c.loop-x.x-index 0)) (c.args.time + 1 - second) m (c.loop-x.best.looked + 1) (c.loop-x.x-index + 1)
+        leads h =
+            let at_rank = here c in
+            search_leads c.loop-x.invariant at_rank.rank x at_rank.is at_rank.below theirs age waited (sym aboves ∙ goes) ahead
+            (aheads ∙ ap (λ z. ltb (c.loop-x.than * z) (age * c.loop-x.of)) counted) (sym tests ∙ h) m counted size (age_small c.args.time second c.requires.0)
 
-pub not_above-requires : goal.not_above-requires
-not_above-requires c = ((waited (goal.at.not_above-requires c).After-wide32).0, c.loop-i.invariant.1.score.small)
+        keeps : (able && ahead) && ready ≡ false
+            → SearchedTo c.args.jobs.now c.args.arrivals.now c.args.tables.waits.now (ready_in c.args.tables.pairs.now c.args.tables.room.now) c.args.time c.args.t c.args.y c.args.most
+            (link_to c.loop-x.best.job) c.loop-x.than c.loop-x.of (c.loop-x.best.looked + 1) (c.loop-x.x-index + 1)
+        keeps h =
+            let at_rank = here c in
+            search_keeps c.loop-x.invariant at_rank.rank x at_rank.is at_rank.below theirs age waited (sym aboves ∙ goes) ahead
+            (aheads ∙ ap (λ z. ltb (c.loop-x.than * z) (age * c.loop-x.of)) counted) (sym tests ∙ h)
 
-pub returns-then-not_above : goal.returns-then-not_above
-returns-then-not_above c =
-    let a = c in
-    let i = a in
-    let r = i.loop-i.invariant.1 in
-    let p = i.requires in record {
-      below = link_below r;
-      found = λ s j l q m. search_stops r i.loop-i-test.true _ refl (here (goal.at.returns-then-not_above i).After-wide-k).1 (on (goal.at.returns-then-not_above a).After-wide32) _ (waited (goal.at.returns-then-not_above a).After-wide32).1 (sym c.not_above.ensures ∙ c.if-not_above.true)
-          p.1 p.2 p.3.0 s (record { jobs' = j; arrivals' = l; reads = q; most' = m });
-    }
+pub loop-x-init : goal.loop-x-init
+loop-x-init c = search_begins _ _ _ _ _ _ _ _
 
-pub overflow_add-looked : goal.overflow_add-looked
-overflow_add-looked c =
-    let i = c in
-    omega (arith, i.loop-i.invariant.1.few, i.loop-i-test.true, i.requires.1)
+pub returns-then-not_above-clause-below : goal.returns-then-not_above-clause-below
+returns-then-not_above-clause-below c = link_below c.loop-x.invariant
 
-pub offset_bounds-waits-k : goal.offset_bounds-waits-k
-offset_bounds-waits-k c = let i = c in index_fits i.wide-k.result 2 i.wide-k.ensures.1 (lit≤ tt)
+pub returns-then-not_above-clause-found : goal.returns-then-not_above-clause-found
+returns-then-not_above-clause-found c =
+    let now = (goal.at.returns-then-not_above-clause-found c).After-from-k in
+    let at_rank = here now in
+    λ s j l q m.
+    search_stops c.loop-x.invariant at_rank.rank _ at_rank.is at_rank.below (theirs now _ c.from.ensures c.if-jobs-k.true _ c.not_above.ensures) _
+    (waited now _ c.from.ensures c.if-jobs-k.true _ c.not_above.ensures) (sym c.not_above.ensures ∙ c.if-not_above.true)
+    c.requires.1 c.requires.2 c.requires.3.0 s (record { jobs' = j; arrivals' = l; reads = q; most' = m })
 
-pub bounds-waits-k : goal.bounds-waits-k
-bounds-waits-k c = c.wide-k.ensures.1
-
-pub offset_bounds-jobs-k-then-jobs-k : goal.offset_bounds-jobs-k-then-jobs-k
-offset_bounds-jobs-k-then-jobs-k c = let i = c in index_fits i.wide-k.result 2 i.wide-k.ensures.1 (lit≤ tt)
-
-pub bounds-jobs-k-then-jobs-k-2 : goal.bounds-jobs-k-then-jobs-k-2
-bounds-jobs-k-then-jobs-k-2 c = (here (goal.at.bounds-jobs-k-then-jobs-k-2 c).After-wide-k).0
-
-pub bounds-jobs-k-then-jobs-k-3 : goal.bounds-jobs-k-then-jobs-k-3
-bounds-jobs-k-then-jobs-k-3 c = (here (goal.at.bounds-jobs-k-then-jobs-k-3 c).After-wide-k).0
-
-pub greater-ahead-requires : goal.greater-ahead-requires
-greater-ahead-requires c =
-    let a = c in
-    let r = a.loop-i.invariant.1 in
-    ((waited (goal.at.greater-ahead-requires a).After-wide32).0, c.wide16-m.ensures.1, r.score.old, r.score.small)
-
-pub overflow_add-link : goal.overflow_add-link
-overflow_add-link c = omega (arith, (here (goal.at.overflow_add-link c).After-wide-k).1)
-
-pub overflow_add-i : goal.overflow_add-i
-overflow_add-i c = let i = c in omega (arith, i.loop-i-test.true, i.requires.1)
-
-pub loop-i-smaller : goal.loop-i-smaller
-loop-i-smaller c = let i = c in omega (arith, i.loop-i-test.true)
-
--- The job was looked at: it leads, or leaves the best as it is.
-weighed : (c : After-wide-k) (second m : ℕ) (above able ahead led : Bool)
-    → let g = c.args in
-    let l = c.loop-i in
-    let k = c.wide-k.result in
-    let x = at g.arrivals.jobs l.i in
-    let To = SearchedTo g.jobs g.arrivals g.waits.now (ready_in g.pairs.now g.room.now) g.time g.t g.y g.most in
-    at g.jobs.transport k ≡ g.t
-    → second ≡ at g.jobs.arrival k
-    → above ≡ leb ((g.time + 1 - second) * l.of) l.than
-    → above ≡ false
-    → (m ≡ at g.waits.now k) × (m < 65536)
-    → able ≡ (not (eqb x g.y) && eqb (at g.jobs.picked k) 0 && not (get_or g.jobs.preempted k false) && leb m g.most)
-    → ahead ≡ ltb (l.than * m) ((g.time + 1 - second) * l.of)
-    → led ≡ ((able && ahead) && get_or (ready_in g.pairs.now g.room.now) k false)
-    → (led ≡ true → To (x + 1) (g.time + 1 - second) m (l.looked + 1) (l.i + 1))
-    × (led ≡ false → To l.link l.than l.of (l.looked + 1) (l.i + 1))
-weighed c second m above able ahead led on arrived aboves goes size ables aheads leds =
-    let g = c.args in
-    let l = c.loop-i in
-    let k = c.wide-k.ensures.0 in
-    let x = at g.arrivals.jobs l.i in
-    let age = g.time + 1 - second in
-    let s : second ≡ at g.jobs.arrival x = arrived ∙ ap (at g.jobs.arrival) k in
-    let theirs : at g.jobs.transport x ≡ g.t = sym (ap (at g.jobs.transport) k) ∙ on in
-    let few : age ≤ 4294967296 = age_small g.time second c.requires.0 in
-    let waited : age ≡ g.time - at g.jobs.arrival x + 1 = ap (λ z. g.time + 1 - z) s ∙ age_is g.time (at g.jobs.arrival x) (here c).2 in
-    let is : m ≡ at g.waits.now x = size.0 ∙ ap (at g.waits.now) k in
-    let below = sym aboves ∙ goes in
-    let before = aheads ∙ ap (λ z. ltb (l.than * z) (age * l.of)) is in
-    let tests = tests_read g.jobs g.waits.now (ready_in g.pairs.now g.room.now) g.y g.most x c.wide-k.result m able ahead k size.0 ables in (
-      λ t. search_leads l.invariant.1 c.loop-i-test.true _ refl (here c).1 theirs age waited below ahead before (sym (leds ∙ tests) ∙ t) m is size.1 few,
-      λ f. search_keeps l.invariant.1 c.loop-i-test.true _ refl (here c).1 theirs age waited below ahead before (sym (leds ∙ tests) ∙ f),
-    )
-
-pub loop-i-preserved : goal.loop-i-preserved
-loop-i-preserved c =
+pub loop-x-preserved : goal.loop-x-preserved
+loop-x-preserved c =
     let now = c.if-jobs-k in
-    let i = (goal.at.loop-i-preserved c).After-wide-k in (
-      refl,
-      elim c.if-jobs-k.branch [
-        | then-jobs-k+else-not_above+then-leads w ↦
-            search_is
-            ((weighed i _ _ _ _ _ _ w.if-jobs-k.true w.wide32.ensures w.not_above.ensures w.if-not_above.false w.wide16-m.ensures
-            w.candidate-able.ensures w.greater-ahead.ensures w.leads.ensures).0 w.if-leads.true)
-            now.link now.than now.of now.looked w.link-is w.than-is w.of-is w.looked-is
-        | then-jobs-k+else-not_above+else-leads w ↦
-            search_is
-            ((weighed i _ _ _ _ _ _ w.if-jobs-k.true w.wide32.ensures w.not_above.ensures w.if-not_above.false w.wide16-m.ensures
-            w.candidate-able.ensures w.greater-ahead.ensures w.leads.ensures).1 w.if-leads.false)
-            now.link now.than now.of now.looked w.link-is w.than-is w.of-is w.looked-is
-        | else-jobs-k w ↦
-            search_is
-            (passed_by c.loop-i.invariant.1 c.loop-i-test.true _ refl (here i).1
-            (λ e. w.if-jobs-k.false (ap (at c.args.jobs.transport) c.wide-k.ensures.0 ∙ e)))
-            now.link now.than now.of now.looked w.link-is w.than-is w.of-is w.looked-is
-      ],
-    )
+    let i = (goal.at.loop-x-preserved c).After-from-k in
+    elim c.if-jobs-k.branch [
+      | then-jobs-k+else-not_above+then-candidate+then-greater+then-is_ready w ↦
+          let led = and_both (and_both w.if-candidate.true w.if-greater.true) (sym w.is_ready.ensures ∙ w.if-is_ready.true) in
+          search_is
+          (leads i _ w.from.ensures w.if-jobs-k.true _ w.not_above.ensures w.if-not_above.false _ w.from-m.ensures (search rules) _ _ w.candidate.ensures w.greater.ensures led)
+          (link_to now.best.job) now.than now.of now.best.looked (ap (λ b. link_to b.job) w.best-is) w.than-is w.of-is (ap (λ b. b.looked) w.best-is)
+      | then-jobs-k+else-not_above+else-candidate w ↦
+          let kept = keeps i _ w.from.ensures w.if-jobs-k.true _ w.not_above.ensures w.if-not_above.false _ w.from-m.ensures (search rules) _ in
+          search_is
+          (elim w.else-candidate.branch [
+            | else-candidate-via-then-candidate+then-greater+else-is_ready v ↦
+                kept _ w.candidate.ensures v.greater.ensures (and_right_false _ (sym v.is_ready.ensures ∙ v.if-is_ready.false))
+            | else-candidate-via-then-candidate+else-greater v ↦ kept _ w.candidate.ensures v.greater.ensures (and_left_false _ (and_right_false _ v.if-greater.false))
+            | else-candidate-via-else-candidate v ↦ kept _ w.candidate.ensures refl (and_left_false _ (and_left_false _ v.if-candidate.false))
+          ])
+          (link_to now.best.job) now.than now.of now.best.looked (ap (λ b. link_to b.job) w.best-is) w.than-is w.of-is (ap (λ b. b.looked) w.best-is)
+      | else-jobs-k w ↦
+          search_is
+          (passed_by c.loop-x.invariant (here i).rank _ (here i).is (here i).below (λ e. w.if-jobs-k.false (ap (at c.args.jobs.now.transport) c.from-k.ensures ∙ e)))
+          (link_to now.best.job) now.than now.of now.best.looked (ap (λ b. link_to b.job) w.best-is) w.than-is w.of-is (ap (λ b. b.looked) w.best-is)
+    ]
 
-pub returns : goal.returns
-returns c =
-    let r = c.loop-i.invariant.1 in
-    let p = c.requires in record {
-      below = link_below r;
-      found = λ s j l q m. search_done r (omega (arith, c.loop-i-test.false, r.bound)) p.1 p.2 s (record { jobs' = j; arrivals' = l; reads = q; most' = m });
-    }
+pub returns-clause-below : goal.returns-clause-below
+returns-clause-below c = link_below c.loop-x.invariant
+
+pub returns-clause-found : goal.returns-clause-found
+returns-clause-found c = λ s j l q m.
+    let end : c.loop-x.x-index ≡ c.args.arrivals.now.count = omega (arith, ranks (goal.at.returns-clause-found c).After-numbers-order, c.loop-x.invariant.bound) in
+    search_done c.loop-x.invariant end c.requires.1 c.requires.2 s (record { jobs' = j; arrivals' = l; reads = q; most' = m })

@@ -1,24 +1,18 @@
 -- Case by case. Assumes nothing.
-use mathlib.Core.Path.{sym, ap}
+use Rattle.std.proofs.Common.{◌≡◌, refl, ◌∙◌}
+use denote.Enum.Bare.{sameb}
+use Rattle.rules.specs.declared.Move.{Move}
+use Rattle.rules.specs.contracts.Move.{the_type}
 use Rattle.rules.specs.Reporting.{is_death}
 use Rattle.settling.proofs.is_death.Goals as goal
 
-pub returns-in-Unchanged : goal.returns-in-Unchanged
+death_is : (m : Move) → sameb the_type m Move.Dead ≡ is_death m
 unfolding is_death
-returns-in-Unchanged c = sym (ap is_death c.in-Unchanged.is)
+death_is Move.Unchanged = refl
+death_is Move.Raised = refl
+death_is Move.Lowered = refl
+death_is Move.Dead = refl
+death_is Move.Revived = refl
 
-pub returns-in-Raised : goal.returns-in-Raised
-unfolding is_death
-returns-in-Raised c = sym (ap is_death c.in-Raised.is)
-
-pub returns-in-Lowered : goal.returns-in-Lowered
-unfolding is_death
-returns-in-Lowered c = sym (ap is_death c.in-Lowered.is)
-
-pub returns-in-Dead : goal.returns-in-Dead
-unfolding is_death
-returns-in-Dead c = sym (ap is_death c.in-Dead.is)
-
-pub returns-in-Revived : goal.returns-in-Revived
-unfolding is_death
-returns-in-Revived c = sym (ap is_death c.in-Revived.is)
+pub returns : goal.returns
+returns c = c.eq.ensures ∙ death_is c.args.m

@@ -1,28 +1,29 @@
 -- `soundness::sound_with` meets its contract: each false answer contradicts a fact of a sound state; where all parts are right, the last part
 -- decides. The table is that of the pass over the entries.
 use native.Mathlib.Omega.{arith}
-use mathlib.Core.Path.{◌≡◌, refl, sym, ◌∙◌}
+use mathlib.Core.Path.{◌≡◌, refl, sym, ap, ◌∙◌}
 use Prim.Native.Nat.{◌≤◌}
-use mathlib.Core.Bool.{true, false}
-use lib.ListN.{length-replicate, get_or-replicate}
-use borrow.Author.Tests.{not-true, not-false}
+use mathlib.Core.Bool.{true, false, not}
+use lib.ListN.{length, get_or-replicate}
+use lib.Dec.{eqb}
+use Rattle.std.specs.Option.{is_some}
+use Rattle.laws.specs.Range.{all_to}
 use Rattle.laws.proofs.Bools.{true_not_false, false_of}
 use Rattle.listing.proofs.ListLaws.{listed_below}
+use Rattle.rules.specs.State.{at}
 use Rattle.rules.specs.Setup.{setup_in_range}
 use Rattle.rules.specs.Sound.{sound}
 use Rattle.counting.proofs.EntryLaws.{counts_within}
-use Rattle.rules.proofs.Shape.{Shaped, present_length}
+use Rattle.rules.proofs.Shape.{Shaped}
 use Rattle.rules.proofs.RangeFacts.{home_below}
-use Rattle.columns.proofs.Shapes.{shaped}
+use Rattle.rules.proofs.Shapes.{shaped}
 use Rattle.clauses.proofs.Ranges.{transports_few, destinations_few}
 use Rattle.soundness.proofs.Counted.{few, sum_small}
+use Rattle.soundness.proofs.Agreeing.{differ_is}
 use Rattle.soundness.proofs.PartsOfSound.{empty, answers_no, part_range, part_turn, part_orders, part_entries, part_on, part_to, part_jobs, part_queues, part_arrivals, part_rising}
 use Rattle.soundness.proofs.SoundOfParts.{whole}
 use Rattle.soundness.proofs.sound_with.Goals as goal
-use Rattle.soundness.proofs.sound_with.Goals.{After-destinations_right, Else-not-counted, Else-not-in_range, Else-not-mark_orders, Start}
-
-all-good : (c : Else-not-counted) → c.count_entries-counted.result.good ≡ true
-all-good c = not-false _ c.if-not-counted.false
+use Rattle.soundness.proofs.sound_with.Goals.{After-destinations_right, After-ne, After-ne-2, In-Some, Else-not-in_range, Else-not-mark_orders, Start}
 
 ordered : (c : Else-not-mark_orders) → c.mark_orders.result ≡ true
 ordered c = c.if-not-mark_orders.false
@@ -30,8 +31,8 @@ ordered c = c.if-not-mark_orders.false
 in_range : (c : Else-not-in_range) → setup_in_range c.args.s.setup ≡ true
 in_range c = sym c.in_range.ensures ∙ c.if-not-in_range.false
 
-ranged : (c : Else-not-counted) → setup_in_range c.args.s.setup ≡ true
-ranged c = in_range (goal.at.Else-not-counted c).Else-not-in_range
+ranged : (c : In-Some) → setup_in_range c.args.s.setup ≡ true
+ranged c = in_range (goal.at.In-Some c).Else-not-in_range
 
 -- a state that came in has its shape
 shape : (c : Start) → Shaped c.args.s
@@ -40,109 +41,94 @@ shape c = shaped c.args.s c.well_formed.0
 -- the turn names a transport that is there
 turn-there : (c : Else-not-mark_orders) → c.args.s.turn ≤ c.args.s.setup.transports
 turn-there c =
-    let t = c in
-    omega (arith, t.if-transports-wide.false, t.wide.ensures.0)
+    omega (arith, c.if-transports-from.false, c.from.ensures)
 
 pub returns-then-not-in_range : goal.returns-then-not-in_range
 returns-then-not-in_range c =
     let r = answers_no c.args.s (part_range c.args.s) c.in_range.ensures c.if-not-in_range.true (refl, c.requires) in
     record { answer = r.0; pairs = r.1 }
 
-pub returns-then-transports-wide : goal.returns-then-transports-wide
-returns-then-transports-wide c = record {
-  answer = sym (false_of λ h. (let t = part_turn c.args.s h in omega (arith, c.if-transports-wide.true, c.wide.ensures.0, t)));
+pub returns-then-transports-from : goal.returns-then-transports-from
+returns-then-transports-from c = record {
+  answer = sym (false_of λ h. (let t = part_turn c.args.s h in omega (arith, c.if-transports-from.true, c.from.ensures, t)));
   pairs = empty refl c.requires;
 }
 
 pub mark_orders-requires : goal.mark_orders-requires
 mark_orders-requires c = record {
-  table_len = length-replicate 8192 false;
   by_index = λ k l. get_or-replicate 8192 k false false l;
 }
 
 pub returns-then-not-mark_orders : goal.returns-then-not-mark_orders
 returns-then-not-mark_orders c =
-    let o = c in
-    let s = o in
-    let r = answers_no s.args.s (part_orders s.args.s) o.mark_orders.ensures.right c.if-not-mark_orders.true (refl, s.requires) in
+    let r = answers_no c.args.s (part_orders c.args.s) c.mark_orders.ensures.right c.if-not-mark_orders.true (refl, c.requires) in
     record { answer = r.0; pairs = r.1 }
 
-pub count_entries-counted-requires : goal.count_entries-counted-requires
-count_entries-counted-requires c =
-    let o = c in
-    let u = in_range (goal.at.count_entries-counted-requires o).Else-not-in_range in
-    record {
-      destinations_bound = destinations_few _ u;
-      present_len = present_length (shape (goal.at.count_entries-counted-requires o).Start).jobs;
-      by_index = home_below _ u;
-      pairs_value = o.requires;
-    }
+pub count_entries-requires : goal.count_entries-requires
+count_entries-requires c =
+    let u = in_range (goal.at.count_entries-requires c).Else-not-in_range in
+    record { destinations_bound = destinations_few _ u; by_index = home_below _ u; pairs_value = c.requires }
 
-pub returns-then-not-counted : goal.returns-then-not-counted
-returns-then-not-counted c =
-    let k = c in
-    let o = k in
-    let r = answers_no o.args.s (part_entries o.args.s (shape (goal.at.returns-then-not-counted o).Start) _ (o.mark_orders.ensures.marks (ordered (goal.at.returns-then-not-counted o).Else-not-mark_orders))) k.count_entries-counted.ensures.counts.right
-    (not-true _ c.if-not-counted.true) (refl, k.count_entries-counted.ensures.pairs.none (not-true _ c.if-not-counted.true)) in
+pub returns-in_default : goal.returns-in_default
+returns-in_default c =
+    let at = goal.at.returns-in_default c in
+    let none : is_some c.count_entries.result ≡ false = rw c.in_default.is refl in
+    let r = answers_no c.args.s (part_entries c.args.s (shape at.Start) _ (c.mark_orders.ensures.marks (ordered at.Else-not-mark_orders))) c.count_entries.ensures.counts.right none
+    (refl, c.count_entries.ensures.pairs.none none) in
     record { answer = r.0; pairs = r.1 }
 
-pub agree-requires : goal.agree-requires
-agree-requires c =
-    let k = c in
-    few (transports_few _ (ranged (goal.at.agree-requires k).Else-not-counted)) (shape (goal.at.agree-requires k).Start).busy.transport (k.count_entries-counted.ensures.counts.tables (all-good (goal.at.agree-requires k).Else-not-counted)).on.size
+-- the stored counts are compared in the places that are there
 
-pub returns-then-not-agree : goal.returns-then-not-agree
-returns-then-not-agree c =
-    let a = c in
-    let k = a in
-    let r = answers_no k.args.s (part_on k.args.s _ k.count_entries-counted.result (k.count_entries-counted.ensures.counts.tables (all-good (goal.at.returns-then-not-agree k).Else-not-counted)))
-    a.agree.ensures c.if-not-agree.true c.unsound.ensures in
+on_few : (c : In-Some) → (c.args.s.setup.transports ≤ length c.args.s.busy.transport) × (c.args.s.setup.transports ≤ length c.in-Some.counted.on)
+on_few c = few (transports_few _ (ranged c)) (shape (goal.at.In-Some c).Start).busy.transport c.in-Some.ensures.counts.tables.on.size
+
+to_few : (c : In-Some) → (c.args.s.setup.destinations ≤ length c.args.s.busy.destination) × (c.args.s.setup.destinations ≤ length c.in-Some.counted.to)
+to_few c = few (destinations_few _ (ranged c)) (shape (goal.at.In-Some c).Start).busy.destination c.in-Some.ensures.counts.tables.to.size
+
+on_agrees : (c : After-ne) → not c.ne.result ≡ all_to (λ t. eqb (at c.args.s.busy.transport t) (at c.in-Some.counted.on t)) c.args.s.setup.transports
+on_agrees c = let l = on_few (goal.at.After-ne c).In-Some in differ_is _ _ _ l.0 l.1 c.ne.ensures
+
+to_agrees : (c : After-ne-2) → not c.ne-2.result ≡ all_to (λ d. eqb (at c.args.s.busy.destination d) (at c.in-Some.counted.to d)) c.args.s.setup.destinations
+to_agrees c = let l = to_few (goal.at.After-ne-2 c).In-Some in differ_is _ _ _ l.0 l.1 c.ne-2.ensures
+
+pub shared_ref_as_front-ne : goal.shared_ref_as_front-ne
+shared_ref_as_front-ne c = transports_few _ (ranged (goal.at.shared_ref_as_front-ne c).In-Some)
+
+pub returns-then-ne : goal.returns-then-ne
+returns-then-ne c =
+    let r = answers_no c.args.s (part_on c.args.s _ c.in-Some.counted c.in-Some.ensures.counts.tables) (on_agrees (goal.at.returns-then-ne c).After-ne) (ap not c.if-ne.true) c.unsound.ensures in
     record { answer = r.0; pairs = r.1 }
 
-pub slice_bounds-agree-end-4 : goal.slice_bounds-agree-end-4
-slice_bounds-agree-end-4 c =
-    let k = c in
-    sym (k.count_entries-counted.ensures.counts.tables (all-good (goal.at.slice_bounds-agree-end-4 k).Else-not-counted)).to.size
+pub shared_ref_as_front-ne-3 : goal.shared_ref_as_front-ne-3
+shared_ref_as_front-ne-3 c = destinations_few _ (ranged (goal.at.shared_ref_as_front-ne-3 c).In-Some)
 
-pub agree-requires-2 : goal.agree-requires-2
-agree-requires-2 c =
-    let k = c in
-    few (destinations_few _ (ranged (goal.at.agree-requires-2 k).Else-not-counted)) (shape (goal.at.agree-requires-2 k).Start).busy.destination (k.count_entries-counted.ensures.counts.tables (all-good (goal.at.agree-requires-2 k).Else-not-counted)).to.size
-
-pub returns-then-not-agree-2 : goal.returns-then-not-agree-2
-returns-then-not-agree-2 c =
-    let a = c in
-    let k = a in
-    let r = answers_no k.args.s (part_to k.args.s _ k.count_entries-counted.result (k.count_entries-counted.ensures.counts.tables (all-good (goal.at.returns-then-not-agree-2 k).Else-not-counted)))
-    a.agree-2.ensures c.if-not-agree-2.true c.unsound-then-not-agree-2.ensures in
+pub returns-then-ne-2 : goal.returns-then-ne-2
+returns-then-ne-2 c =
+    let r = answers_no c.args.s (part_to c.args.s _ c.in-Some.counted c.in-Some.ensures.counts.tables) (to_agrees (goal.at.returns-then-ne-2 c).After-ne-2) (ap not c.if-ne-2.true) c.unsound-then-ne-2.ensures in
     record { answer = r.0; pairs = r.1 }
 
 pub jobs_right-requires : goal.jobs_right-requires
 jobs_right-requires c = λ j l.
-    sum_small (counts_within _ _ _ _ _ _ (c.count_entries-counted.ensures.counts.tables (all-good (goal.at.jobs_right-requires c).Else-not-counted)).waiting j l)
-    (counts_within _ _ _ _ _ _ (c.count_entries-counted.ensures.counts.tables (all-good (goal.at.jobs_right-requires c).Else-not-counted)).busy j l)
+    sum_small (counts_within _ _ _ _ _ _ c.in-Some.ensures.counts.tables.waiting j l)
+    (counts_within _ _ _ _ _ _ c.in-Some.ensures.counts.tables.busy j l)
 
 pub returns-then-not-jobs_right : goal.returns-then-not-jobs_right
 returns-then-not-jobs_right c =
-    let a = c in
-    let k = a in
-    let r = answers_no k.args.s (part_jobs k.args.s _ k.count_entries-counted.result (k.count_entries-counted.ensures.counts.tables (all-good (goal.at.returns-then-not-jobs_right k).Else-not-counted)))
-    a.jobs_right.ensures c.if-not-jobs_right.true c.unsound-then-not-jobs_right.ensures in
+    let r = answers_no c.args.s (part_jobs c.args.s _ c.in-Some.counted c.in-Some.ensures.counts.tables)
+    c.jobs_right.ensures c.if-not-jobs_right.true c.unsound-then-not-jobs_right.ensures in
     record { answer = r.0; pairs = r.1 }
 
 pub queues_right-requires : goal.queues_right-requires
-queues_right-requires c = transports_few _ (ranged (goal.at.queues_right-requires c).Else-not-counted)
+queues_right-requires c = transports_few _ (ranged (goal.at.queues_right-requires c).In-Some)
 
 pub returns-then-not-queues_right : goal.returns-then-not-queues_right
 returns-then-not-queues_right c =
-    let a = c in
-    let r = answers_no a.args.s (part_queues a.args.s) a.queues_right.ensures c.if-not-queues_right.true c.unsound-then-not-queues_right.ensures in
+    let r = answers_no c.args.s (part_queues c.args.s) c.queues_right.ensures c.if-not-queues_right.true c.unsound-then-not-queues_right.ensures in
     record { answer = r.0; pairs = r.1 }
 
 pub returns-then-not-each_once : goal.returns-then-not-each_once
 returns-then-not-each_once c =
-    let a = c in
-    let r = answers_no a.args.s (part_arrivals a.args.s) a.each_once.ensures c.if-not-each_once.true c.unsound-then-not-each_once.ensures in
+    let r = answers_no c.args.s (part_arrivals c.args.s) c.each_once.ensures c.if-not-each_once.true c.unsound-then-not-each_once.ensures in
     record { answer = r.0; pairs = r.1 }
 
 pub seconds_rise-requires : goal.seconds_rise-requires
@@ -152,23 +138,22 @@ seconds_rise-requires c =
 
 pub returns-then-not-seconds_rise : goal.returns-then-not-seconds_rise
 returns-then-not-seconds_rise c =
-    let a = c in
-    let r = answers_no a.args.s (part_rising a.args.s) a.seconds_rise.ensures c.if-not-seconds_rise.true c.unsound-then-not-seconds_rise.ensures in
+    let r = answers_no c.args.s (part_rising c.args.s) c.seconds_rise.ensures c.if-not-seconds_rise.true c.unsound-then-not-seconds_rise.ensures in
     record { answer = r.0; pairs = r.1 }
 
 pub destinations_right-requires : goal.destinations_right-requires
-destinations_right-requires c = ranged (goal.at.destinations_right-requires c).Else-not-counted
+destinations_right-requires c = ranged (goal.at.destinations_right-requires c).In-Some
 
 decided : (c : After-destinations_right) → c.destinations_right.result ≡ sound c.args.s
 decided c =
     whole c.args.s _ (c.mark_orders.ensures.marks (ordered (goal.at.After-destinations_right c).Else-not-mark_orders))
-    c.count_entries-counted.result (c.count_entries-counted.ensures.counts.tables (all-good (goal.at.After-destinations_right c).Else-not-counted))
-    (ranged (goal.at.After-destinations_right c).Else-not-counted)
+    c.in-Some.counted c.in-Some.ensures.counts.tables
+    (ranged (goal.at.After-destinations_right c).In-Some)
     (turn-there (goal.at.After-destinations_right c).Else-not-mark_orders)
     (sym c.mark_orders.ensures.right ∙ ordered (goal.at.After-destinations_right c).Else-not-mark_orders)
-    (sym c.count_entries-counted.ensures.counts.right ∙ all-good (goal.at.After-destinations_right c).Else-not-counted)
-    (sym c.agree.ensures ∙ c.if-not-agree.false)
-    (sym c.agree-2.ensures ∙ c.if-not-agree-2.false)
+    (sym c.in-Some.ensures.counts.right)
+    (sym (on_agrees (goal.at.After-destinations_right c).After-ne) ∙ ap not c.if-ne.false)
+    (sym (to_agrees (goal.at.After-destinations_right c).After-ne-2) ∙ ap not c.if-ne-2.false)
     (sym c.jobs_right.ensures ∙ c.if-not-jobs_right.false)
     (sym c.queues_right.ensures ∙ c.if-not-queues_right.false)
     (sym c.each_once.ensures ∙ c.if-not-each_once.false)
@@ -183,8 +168,7 @@ returns-then-not-destinations_right c = record {
 
 pub returns : goal.returns
 returns c =
-    let k = c in
     record {
       answer = sym c.if-not-destinations_right.false ∙ decided (goal.at.returns c).After-destinations_right;
-      pairs = record { counted = λ _. k.count_entries-counted.ensures.pairs.counted (all-good (goal.at.returns k).Else-not-counted); none = λ f. true_not_false refl f };
+      pairs = record { counted = λ _. c.in-Some.ensures.pairs.counted refl; none = λ f. true_not_false refl f };
     }

@@ -5,5 +5,5 @@ use Rattle.startup.proofs.empty.Goals as goal
 pub returns : goal.returns
 returns c =
     let b = c in
-    nothing_yet b.args.u b.args.ds c.no_busy.ensures c.no_list-q.ensures
-    c.no_list.ensures c.no_jobs.ensures c.no_entries.ensures
+    nothing_yet b.args.u b.args.ds c.no_busy.ensures c.no_list.ensures
+    c.no_list-2.ensures c.no_jobs.ensures c.no_entries.ensures

@@ -5,13 +5,13 @@ use Rattle.startup.proofs.FirstLaws.{first_none, first_written, first_all}
 use Rattle.startup.proofs.first_destinations.Goals as goal
 
 pub loop-d-init : goal.loop-d-init
-loop-d-init c = (first_none _ _ c.zero_destination-none.ensures, omega arith, omega (arith, in_range_facts _ c.requires))
+loop-d-init c = (first_none _ _ c.zero_destination-ds.ensures, omega arith, omega (arith, in_range_facts _ c.requires))
 
-pub offset_bounds-u-t : goal.offset_bounds-u-t
-offset_bounds-u-t c = omega (arith, home_below _ c.requires c.loop-d.d (omega arith))
+pub offset_bounds-u-u : goal.offset_bounds-u-u
+offset_bounds-u-u c = omega (arith, home_below _ c.requires c.loop-d.d (omega arith))
 
-pub bounds-u-t : goal.bounds-u-t
-bounds-u-t c = home_below _ c.requires c.loop-d.d (omega arith)
+pub bounds-u-u : goal.bounds-u-u
+bounds-u-u c = home_below _ c.requires c.loop-d.d (omega arith)
 
 pub loop-d-preserved : goal.loop-d-preserved
 loop-d-preserved c =

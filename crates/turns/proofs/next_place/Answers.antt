@@ -1,79 +1,39 @@
-use Prim.Native.Nat.{◌+◌, ◌%◌, ◌<◌}
-use mathlib.Core.Path.{◌≡◌, refl, sym, ◌∙◌, ap}
-use mathlib.Core.Bool.{false}
-use native.Mathlib.Nat.{not-suc-le-zero, mod-lt}
-use native.Mathlib.Omega.{arith}
-use borrow.Author.Count.{below_more}
+use Rattle.std.proofs.Common.{ℕ, ◌≡◌, ◌+◌, ◌*◌, ◌%◌, ◌<◌, sym, ap, ap₂, ◌∙◌, Bool, arith, below_more}
+use Rattle.rules.specs.State.{at}
 use Rattle.eligibility.specs.Eligibility.{open_place}
 use Rattle.turns.proofs.Fronts.{steps_at, steps_none}
 use Rattle.turns.proofs.next_place.Goals as goal
-use Rattle.turns.proofs.next_place.Goals.{After-open_to, In-loop-step}
+use Rattle.turns.proofs.next_place.Goals.{After-open_to}
 
--- the place of a step
-place_below : (c : In-loop-step) → ((c.args.start + c.loop-step.step) % c.args.places) < c.args.places
-place_below c = mod-lt (c.args.start + c.loop-step.step) (omega (arith, c.loop-step-test.true))
+-- the place of a step, and what its test says
+place_is : (c : After-open_to) → (c.from-start.result + c.loop-step.step) % c.from-n.result ≡ (at c.args.jobs.now.turn c.args.j + c.loop-step.step) % at c.args.jobs.now.places c.args.j
+place_is c = ap₂ ◌%◌ (ap (λ z. z + c.loop-step.step) (c.from-start.ensures ∙ ap (at c.args.jobs.now.turn) c.from-job.ensures)) (c.from-n.ensures ∙ ap (at c.args.jobs.now.places) c.from-job.ensures)
 
--- what the test of a step says
 step_is : (c : After-open_to)
-    → (open_place c.args.order.now c.args.pairs.now c.args.room.now c.args.j) ((c.args.start + c.loop-step.step) % c.args.places)
-    ≡ c.open_to.result
+    → open_place c.args.jobs.now.order c.args.tables.pairs.now c.args.tables.room.now c.args.j ((at c.args.jobs.now.turn c.args.j + c.loop-step.step) % at c.args.jobs.now.places c.args.j) ≡ c.open_to.result
 unfolding open_place
-step_is c = sym c.open_to.ensures
-
-pub loop-step-init : goal.loop-step-init
-loop-step-init c = (omega arith, λ k l. absurd (not-suc-le-zero l))
-
-pub overflow_add-k : goal.overflow_add-k
-overflow_add-k c = omega (arith, c.loop-step-test.true, c.requires.1, c.requires.2)
-
-pub nonzero_rem-k : goal.nonzero_rem-k
-nonzero_rem-k c = omega (arith, c.loop-step-test.true)
-
-pub overflow_mul-to : goal.overflow_mul-to
-overflow_mul-to c = omega (arith, c.requires.0)
-
-pub overflow_add-to : goal.overflow_add-to
-overflow_add-to c = omega (arith, place_below (goal.at.overflow_add-to c).In-loop-step, c.requires.0, c.requires.1)
-
-pub bounds-order-job : goal.bounds-order-job
-bounds-order-job c = omega (arith, place_below (goal.at.bounds-order-job c).In-loop-step, c.requires.0, c.requires.1)
-
-pub open_to-requires : goal.open_to-requires
-open_to-requires c = c.requires.0
-
-pub overflow_cast-result : goal.overflow_cast-result
-overflow_cast-result c = omega (arith, place_below (goal.at.overflow_cast-result c).In-loop-step, c.requires.1)
+step_is c = rw (← place_is c, ← c.from-job.ensures) (sym c.open_to.ensures)
 
 pub returns-then-open_to : goal.returns-then-open_to
 returns-then-open_to c =
-    let i = c in
-    let x = i.args in
-    λ l.
-    let e =
-    steps_at (open_place i.args.order.now i.args.pairs.now i.args.room.now i.args.j) x.places x.start i.loop-step.step i.loop-step-test.true
-    (step_is (goal.at.returns-then-open_to c).After-open_to ∙ c.if-open_to.true) i.loop-step.invariant.1
-    in
+    let jobs = c.args.jobs.now in
+    let p : ℕ → Bool = open_place jobs.order c.args.tables.pairs.now c.args.tables.room.now c.args.j in
+    let n = at jobs.places c.args.j in
+    let start = at jobs.turn c.args.j in
+    let here = (goal.at.returns-then-open_to c).After-open_to in
+    let inside : c.loop-step.step < n = omega (arith, c.from-n.ensures, ap (at jobs.places) c.from-job.ensures) in
+    let e = steps_at p n start c.loop-step.step inside (step_is here ∙ c.if-open_to.true) c.loop-step.invariant in
     record {
-      turn = ap (λ z. (x.start + z) % x.places) (sym e);
-      taken = refl;
+      finds = rw e inside;
+      turn = place_is here ∙ ap (λ z. (start + z) % n) (sym e);
+      taken = ap (λ j. at jobs.order (32 * j + (c.from-start.result + c.loop-step.step) % c.from-n.result)) c.from-job.ensures;
     }
 
-pub overflow_add-step : goal.overflow_add-step
-overflow_add-step c = omega (arith, c.loop-step-test.true, c.requires.1)
-
-pub loop-step-smaller : goal.loop-step-smaller
-loop-step-smaller c = omega (arith, c.loop-step-test.true)
-
 pub loop-step-preserved : goal.loop-step-preserved
-loop-step-preserved c =
-    let i = c in
-    let x = i.args in (
-      omega (arith, i.loop-step-test.true),
-      below_more (λ k. (open_place i.args.order.now i.args.pairs.now i.args.room.now i.args.j) ((x.start + k) % x.places) ≡ false) i.loop-step.step i.loop-step.invariant.1
-          (step_is (goal.at.loop-step-preserved c).After-open_to ∙ c.if-open_to.false),
-    )
+loop-step-preserved c = below_more _ _ c.loop-step.invariant (step_is (goal.at.loop-step-preserved c).After-open_to ∙ c.if-open_to.false)
 
 pub returns : goal.returns
 returns c =
-    let s = c in
-    λ l. absurd (omega (arith, l, steps_none (open_place s.args.order.now s.args.pairs.now s.args.room.now s.args.j) s.args.places s.args.start (λ k m. c.loop-step.invariant.1 k (omega (arith, c.loop-step-test.false, m)))))
+    let end : c.from-n.result ≡ at c.args.jobs.now.places c.args.j = c.from-n.ensures ∙ ap (at c.args.jobs.now.places) c.from-job.ensures in
+    steps_none (open_place c.args.jobs.now.order c.args.tables.pairs.now c.args.tables.room.now c.args.j) (at c.args.jobs.now.places c.args.j) (at c.args.jobs.now.turn c.args.j)
+    (λ k m. c.loop-step.invariant k (omega (arith, m, end)))

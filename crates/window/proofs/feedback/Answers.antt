@@ -2,16 +2,19 @@
 use mathlib.Core.Path.{sym, ◌∙◌}
 use native.Mathlib.Omega.{arith}
 use Rattle.window.proofs.WindowLaws.{feedback_flat, feedback_per_window, feedback_root, root_high}
+use Prim.Native.Nat.{◌*◌}
+use Rattle.rules.specs.Sizes.{U}
+use Rattle.window.proofs.Ceil.{ceil_is}
 use Rattle.window.proofs.feedback.Goals as goal
 
-pub returns-then-f-eq0 : goal.returns-then-f-eq0
-returns-then-f-eq0 c = sym (feedback_flat _ _ c.if-f-eq0.true)
+pub returns-in-0 : goal.returns-in-0
+returns-in-0 c = sym (feedback_flat _ _ c.in-0.is)
 
-pub returns-then-f-eq1 : goal.returns-then-f-eq1
-returns-then-f-eq1 c = c.rounded_up.ensures ∙ sym (feedback_per_window _ _ c.if-f-eq1.true)
+pub returns-in-1 : goal.returns-in-1
+returns-in-1 c = c.div_ceil.ensures ∙ ceil_is (c.args.f.percent * U) (100 * c.args.window) (omega arith) ∙ sym (feedback_per_window _ _ c.in-1.is)
 
-pub overflow_mul-result-2 : goal.overflow_mul-result-2
-overflow_mul-result-2 c = omega (arith, root_high _ _ _ c.requires.0 c.root.ensures)
+pub overflow_mul-result-in_default : goal.overflow_mul-result-in_default
+overflow_mul-result-in_default c = omega (arith, root_high _ _ _ c.requires.0 c.root.ensures)
 
-pub returns : goal.returns
-returns c = feedback_root _ _ _ c.if-f-eq0.false c.if-f-eq1.false c.root.ensures
+pub returns-in_default : goal.returns-in_default
+returns-in_default c = feedback_root _ _ _ (omega arith) (omega arith) c.root.ensures

@@ -7,4 +7,4 @@ pub returns-then-fall-u : goal.returns-then-fall-u
 returns-then-fall-u c = lowered_above _ _ _ c.if-fall-u.true
 
 pub returns : goal.returns
-returns c = lowered_below _ _ _ _ c.if-fall-u.false (let e = c.greatest.ensures in omega arith)
+returns c = lowered_below _ _ _ _ c.if-fall-u.false (let e = c.max.ensures in omega arith)

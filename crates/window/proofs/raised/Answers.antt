@@ -6,4 +6,4 @@ pub returns-then-success-lt-U : goal.returns-then-success-lt-U
 returns-then-success-lt-U c = raised_below _ _ _ c.if-success-lt-U.true
 
 pub returns : goal.returns
-returns c = raised_above _ _ _ _ c.if-success-lt-U.false c.least.ensures
+returns c = raised_above _ _ _ _ c.if-success-lt-U.false c.min.ensures

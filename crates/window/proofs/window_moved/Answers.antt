@@ -1,12 +1,14 @@
 -- Larger, smaller, equal. Assumes nothing.
+use Rattle.std.proofs.Common.{arith}
+use Rattle.std.proofs.lemmas.Grind.{common_steps}
 use Rattle.window.proofs.Cases.{window_raised, window_lowered, window_unchanged}
 use Rattle.window.proofs.window_moved.Goals as goal
 
-pub returns-then-found-left : goal.returns-then-found-left
-returns-then-found-left c = window_raised _ _ c.if-found-left.true
+pub returns-in-Less : goal.returns-in-Less
+returns-in-Less c = window_raised _ _ (grind (arith, common_steps))
 
-pub returns-then-left-found : goal.returns-then-left-found
-returns-then-left-found c = window_lowered _ _ c.if-left-found.true
+pub returns-in-Greater : goal.returns-in-Greater
+returns-in-Greater c = window_lowered _ _ (grind (arith, common_steps))
 
-pub returns : goal.returns
-returns c = window_unchanged _ _ c.if-found-left.false c.if-left-found.false
+pub returns-in-Equal : goal.returns-in-Equal
+returns-in-Equal c = window_unchanged _ _ (grind (arith, common_steps)) (grind (arith, common_steps))

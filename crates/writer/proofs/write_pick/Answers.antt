@@ -1,43 +1,32 @@
 -- Once the clock is small and there is room: number by number. Assumes nothing.
-use Prim.Native.Nat.{ℕ, ◌+◌}
-use mathlib.Core.Path.{sym, ◌∙◌}
-use mathlib.Core.List.{List, [], ◌∷◌}
+use Rattle.std.proofs.Common.{[], ◌∷◌, arith}
 use Rattle.journal.specs.Records.{pick}
-use Rattle.writer.proofs.PartLaws.{Parts, Rest, full, rest_all, rest_next, rest_put, rest_none}
+use Rattle.writer.proofs.PartLaws.{passed, failed, stopped, Parts, full, numbers_fit, whole, no_tail}
 use Rattle.writer.proofs.RecordLaws.{pick_clock, pick_parts}
 use Rattle.writer.proofs.write_pick.Goals as goal
-use Rattle.writer.proofs.write_pick.Goals.{After-put_number-at, Else-not-fits, After-fits, Start}
+use Rattle.writer.proofs.write_pick.Goals.{After-fits}
 
--- What is left there.
-abbrev Left : Start → List ℕ → List ℕ → ℕ → Type 0
-Left s numbers = Rest (pick s.args.clock) s.args.buffer.now s.args.used numbers []
+parts : (c : After-fits) → let clock = c.args.clock in Parts (pick clock) (2 ∷ clock ∷ []) []
+parts c = pick_parts (passed _ _ c.in_ok-small.ensures)
 
-parts : (c : After-fits) → let clock = c.args.clock in Parts (pick clock) (2 ∷ clock ∷ []) [] (1 + c.size_of.result)
-parts c = pick_parts c.if-clock-gt4294967295.false c.size_of.ensures.0
+pub returns-in_err-small : goal.returns-in_err-small
+returns-in_err-small c =
+    let f = failed _ c.in_err-small.ensures in
+    let w = stopped c.from_residual.result c.from_residual.ensures.1 f.1 (pick_clock _ _ _ f.0) in
+    record { answer = w.answer; bytes = w.bytes }
 
-all : (c : Else-not-fits) → let s = (goal.at.Else-not-fits c).Start in Left s (2 ∷ s.args.clock ∷ []) s.args.buffer.now s.args.used
-all c = rest_all _ _ _ (parts (goal.at.Else-not-fits c).After-fits) (sym c.fits.ensures ∙ c.if-not-fits.false)
+pub returns-in_err-fits : goal.returns-in_err-fits
+returns-in_err-fits c =
+    let f = failed _ c.in_err-fits.ensures in
+    let w = stopped c.from_residual-in_err-fits.result c.from_residual-in_err-fits.ensures.1 f.1 (full _ _ _ (parts (goal.at.returns-in_err-fits c).After-fits) (omega (arith, c.size_of_all.ensures.0)) f.0) in
+    record { answer = w.answer; bytes = w.bytes }
 
-kind-put : (c : After-put_number-at) → let s = (goal.at.After-put_number-at c).Start in Left s (s.args.clock ∷ []) c.put_number-at.new.buffer c.put_number-at.result
-kind-put c = rest_put _ _ _ (all (goal.at.After-put_number-at c).Else-not-fits) c.put_number-at.ensures
-
-pub returns-then-clock-gt4294967295 : goal.returns-then-clock-gt4294967295
-returns-then-clock-gt4294967295 c =
-    let r = pick_clock _ _ _ c.if-clock-gt4294967295.true in
-    record { answer = r.0; bytes = r.1 }
-
-pub returns-then-not-fits : goal.returns-then-not-fits
-returns-then-not-fits c =
-    let r = full _ _ _ (parts (goal.at.returns-then-not-fits c).After-fits) (sym c.fits.ensures ∙ c.if-not-fits.true) in
-    record { answer = r.0; bytes = r.1 }
-
-pub put_number-at-requires : goal.put_number-at-requires
-put_number-at-requires c = rest_next _ _ _ (all (goal.at.put_number-at-requires c).Else-not-fits)
-
-pub put_number-requires : goal.put_number-requires
-put_number-requires c = rest_next _ _ _ (kind-put (goal.at.put_number-requires c).After-put_number-at)
+pub put_numbers-requires : goal.put_numbers-requires
+put_numbers-requires c =
+    let o = parts (goal.at.put_numbers-requires c).After-fits in
+    (o.smalls, numbers_fit _ _ _ o (omega (arith, c.size_of_all.ensures.0)) (passed _ _ c.in_ok-fits.ensures))
 
 pub returns : goal.returns
 returns c =
-    let r = rest_none _ _ _ (rest_put _ _ _ (kind-put (goal.at.returns c).After-put_number-at) c.put_number.ensures) in
-    record { answer = r.0; bytes = r.1 }
+    let w = whole _ _ _ (parts (goal.at.returns c).After-fits) (omega (arith, c.size_of_all.ensures.0)) (passed _ _ c.in_ok-fits.ensures) c.put_numbers.ensures no_tail in
+    record { answer = w.answer; bytes = w.bytes }

@@ -8,7 +8,7 @@ use Rattle.rules.specs.Sizes.{last_second}
 use Rattle.rules.specs.SoundFacts.{Sound}
 use Rattle.rules.proofs.Shape.{Shaped}
 use Rattle.rules.proofs.Soundness.{sound_facts}
-use Rattle.columns.proofs.Shapes.{shaped}
+use Rattle.rules.proofs.Shapes.{shaped}
 use Rattle.searching.proofs.Arrivals.{arrived_read}
 use Rattle.boundaries.proofs.searched.search.Goals as goal
 use Rattle.boundaries.proofs.searched.search.Goals.{Else-bad_clock}

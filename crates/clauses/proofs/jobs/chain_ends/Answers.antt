@@ -1,30 +1,28 @@
-use native.Mathlib.Omega.{arith}
-use Prim.Native.Nat.{suc, ◌-◌}
-use mathlib.Core.Path.{◌≡◌, refl, sym, ◌∙◌}
-use lib.ListN.{get_or-eq_default}
+use Rattle.std.proofs.Common.{◌≡◌, refl, sym, ap, ◌∙◌, arith, rules}
+use Prim.Native.Nat.{◌-◌, ◌+◌}
+use native.Mathlib.Decide.{ℕ_discrete}
+use borrow.Author.Tests.{eq-eqb, ne_eqb}
+use Rattle.rules.specs.State.{at}
+use Rattle.laws.specs.Chain.{ends_in}
 use Rattle.laws.proofs.Walk.{ends_stuck, ends_turn, ends_here}
 use Rattle.clauses.proofs.jobs.chain_ends.Goals as goal
 
-pub loop-k-init : goal.loop-k-init
-loop-k-init c = (refl, omega arith)
+pub loop-init : goal.loop-init
+loop-init c = refl
 
-pub returns-then-steps-eq0 : goal.returns-then-steps-eq0
-returns-then-steps-eq0 c = sym (c.loop-k.invariant.0 ∙ ends_stuck _ c.loop-k.steps c.loop-k.k (c.loop-k.k - 1) (omega arith) (omega arith))
+pub returns-then-k-eq0 : goal.returns-then-k-eq0
+returns-then-k-eq0 c = sym (c.loop.invariant ∙ ends_here _ _ _ c.if-k-eq0.true)
 
-pub returns-then-p-ge32 : goal.returns-then-p-ge32
-returns-then-p-ge32 c =
-    let l = c in
-    let e : l.loop-k.k ≡ suc (c.wide-p.result - 1) = omega arith in
-    sym (l.loop-k.invariant.0 ∙ ends_turn _ l.loop-k.steps l.loop-k.k (l.loop-k.steps - 1) (c.wide-p.result - 1) (omega arith) e
-    ∙ ends_here _ _ _ (get_or-eq_default l.args.parent.now 0 (omega arith)))
+pub loop-preserved : goal.loop-preserved
+loop-preserved c =
+    let next : c.unwrap_or-k.result ≡ at c.args.parent.now c.from.result = search rules in
+    c.loop.invariant ∙ ends_turn _ (32 - c.loop.counter) c.loop.k (32 - (c.loop.counter + 1)) c.from.result (omega arith) (omega arith) ∙ ap (ends_in (at c.args.parent.now) (32 - (c.loop.counter + 1))) (sym next)
 
-pub loop-k-preserved : goal.loop-k-preserved
-loop-k-preserved c =
-    let w = c in (
-      let e : w.loop-k.k ≡ suc (w.wide-p.result - 1) = omega arith in w.loop-k.invariant.0
-          ∙ ends_turn _ w.loop-k.steps w.loop-k.k (w.loop-k.steps - 1) (w.wide-p.result - 1) (omega arith) e,
-      omega arith,
-    )
-
+-- no step is left
 pub returns : goal.returns
-returns c = sym (c.loop-k.invariant.0 ∙ ends_here _ _ _ (omega arith))
+returns c =
+    let none : 32 - c.loop.counter ≡ 0 = omega arith in
+    elim (ℕ_discrete c.loop.k 0) [
+      | yes e ↦ eq-eqb c.loop.k 0 e ∙ sym (c.loop.invariant ∙ ends_here _ _ _ e)
+      | no ne ↦ ne_eqb c.loop.k 0 ne ∙ sym (c.loop.invariant ∙ ends_stuck _ (32 - c.loop.counter) c.loop.k (c.loop.k - 1) none (omega arith))
+    ]

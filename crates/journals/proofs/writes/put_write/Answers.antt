@@ -4,8 +4,8 @@ use native.Mathlib.Omega.{arith}
 use lib.Seq.{length-take-le}
 use Rattle.journals.proofs.writes.put_write.Goals as goal
 
-pub slice_bounds-nines-end-2 : goal.slice_bounds-nines-end-2
-slice_bounds-nines-end-2 c = sym (length-take-le _ _ (omega arith))
+pub slice_bounds-fill-end-2 : goal.slice_bounds-fill-end-2
+slice_bounds-fill-end-2 c = sym (length-take-le _ _ (omega arith))
 
 pub slice_bounds-write-end-2 : goal.slice_bounds-write-end-2
 slice_bounds-write-end-2 c = sym (length-take-le _ _ (omega arith))

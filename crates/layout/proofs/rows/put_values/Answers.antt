@@ -1,17 +1,22 @@
-use mathlib.Core.Path.{◌≡◌, refl, ◌∙◌}
-use native.Mathlib.Omega.{arith}
-use lib.ListN.{length, length-set}
-use Rattle.laws.proofs.Fill.{fill_none, fill_more, fill_all}
-use Rattle.layout.proofs.RowLaws.{table_padded}
+use Rattle.std.proofs.Common.{◌≡◌, ◌-◌, ◌≤◌, ◌∙◌, ◌++◌, ℕ, List, length, drop, take, replicate, ap, arith}
+use Rattle.std.proofs.lemmas.Grind.{common_steps}
+use Rattle.laws.specs.Sequence.{padded}
+use borrow.Rule.Slice.PartMut.{put_mid}
 use Rattle.layout.proofs.rows.put_values.Goals as goal
 
-pub loop-i-init : goal.loop-i-init
-loop-i-init c = (omega arith, refl, fill_none _ _)
+-- zeros in all places behind the values
+padded_is : (vs ps z : List ℕ) → length vs ≤ length ps → z ≡ replicate (length ps - length vs) 0
+    → put_mid (length vs) (length (vs ++ drop (length vs) ps) - length vs) (vs ++ drop (length vs) ps) z ≡ padded (length ps) vs
+unfolding padded
+padded_is vs ps z h e = grind (arith, common_steps)
 
-pub loop-i-preserved : goal.loop-i-preserved
-loop-i-preserved c = (omega arith, simp length-set (omega arith), fill_more _ _ _ (omega arith) c.loop-i.invariant.2 c.value_at.ensures)
+zeros : (vs ps : List ℕ) → length vs ≤ length ps
+    → length (take (length (vs ++ drop (length vs) ps) - length vs) (drop (length vs) (vs ++ drop (length vs) ps))) ≡ length ps - length vs
+zeros vs ps h = grind (arith, common_steps)
 
 pub returns : goal.returns
 returns c =
-    let e : c.loop-i.i ≡ length c.args.places.now = omega arith in
-    fill_all _ c.args.places.now (length c.args.places.now) refl (rw e at c.loop-i.invariant.2) ∙ table_padded _ _ c.requires
+    let vs = c.args.values.now in
+    let ps = c.args.places.now in
+    let e = c.fill.ensures.after (λ y h. h) ∙ ap (λ n. replicate n 0) (rw c.copy_from_slice.ensures.after (zeros vs ps c.requires)) in
+    rw c.copy_from_slice.ensures.after (padded_is vs ps _ c.requires e)

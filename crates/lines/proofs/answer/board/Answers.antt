@@ -3,14 +3,10 @@ use Rattle.lines.specs.Texts.{board_answer_text}
 use Rattle.lines.proofs.PutLaws.{put_case}
 use Rattle.lines.proofs.answer.board.Goals as goal
 
-pub returns-in-Refused : goal.returns-in-Refused
+pub returns-in-Err : goal.returns-in-Err
 unfolding board_answer_text
-returns-in-Refused c =
-    put_case (λ a. board_answer_text a c.args.written.now) c.in-Refused.is
-    c.refused.ensures
+returns-in-Err c = put_case (λ a. board_answer_text a c.args.written.now) c.in-Err.is c.refused.ensures
 
-pub returns-in-Written : goal.returns-in-Written
+pub returns-in-Ok : goal.returns-in-Ok
 unfolding board_answer_text
-returns-in-Written c =
-    put_case (λ a. board_answer_text a c.args.written.now) c.in-Written.is
-    c.shown_text.ensures
+returns-in-Ok c = put_case (λ a. board_answer_text a c.args.written.now) c.in-Ok.is c.shown_text.ensures

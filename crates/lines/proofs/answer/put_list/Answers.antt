@@ -1,26 +1,19 @@
-use mathlib.Core.Path.{refl, sym, ap}
-use native.Mathlib.Omega.{arith}
+use Rattle.std.proofs.Common.{refl, sym, ap, rules, arith}
 use Rattle.lines.specs.Texts.{numbers}
 use Rattle.rules.specs.Board.{numbered}
 use Rattle.lines.proofs.PutLaws.{put_no_number, put_next_number, put_case, put_as, put_more, take_most}
-use borrow.Author.Rules.{rules}
 use Rattle.lines.proofs.answer.put_list.Goals as goal
 
-pub loop-i-init : goal.loop-i-init
-loop-i-init c = (refl, omega arith, omega arith, put_no_number c.args.list.now _ _)
+pub loop-x-init : goal.loop-x-init
+loop-x-init c = (refl, put_no_number c.args.list.now _ _)
 
-pub loop-i-preserved : goal.loop-i-preserved
-loop-i-preserved c = (
+pub loop-x-preserved : goal.loop-x-preserved
+loop-x-preserved c = (
   search rules,
-  omega arith,
-  omega arith,
-  put_next_number c.args.list.now _ _
-      c.loop-i.i c.loop-i.invariant.3 (omega arith)
-      (put_case numbered (sym c.wide.ensures) c.put_number-p-in-loop-i.ensures),
+  put_next_number _ _ _
+      c.loop-x.x-index c.loop-x.invariant.1 (omega arith)
+      (put_case numbered (sym c.from-in-loop-x.ensures) c.put_number-p-in-loop-x.ensures),
 )
 
 pub returns : goal.returns
-returns c =
-    let list = c.args.list.now in
-    let all = take_most _ list c.loop-i.i c.at_most-count.ensures (omega arith) in
-    put_more c.put_number-p.ensures (put_as (ap numbers all) c.loop-i.invariant.3)
+returns c = put_more (put_case numbered (sym c.from.ensures) c.put_number-p.ensures) (put_as (ap numbers (take_most c.args.n c.args.list.now (omega (arith, c.min.ensures, c.from-2.ensures)) c.loop-x-test.false)) c.loop-x.invariant.1)

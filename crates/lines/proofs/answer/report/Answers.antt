@@ -3,13 +3,10 @@ use Rattle.lines.specs.Texts.{report_text}
 use Rattle.lines.proofs.PutLaws.{put_case}
 use Rattle.lines.proofs.answer.report.Goals as goal
 
-pub returns-in-Refused : goal.returns-in-Refused
+pub returns-in-Err : goal.returns-in-Err
 unfolding report_text
-returns-in-Refused c =
-    put_case (λ a. report_text a c.args.list.now) c.in-Refused.is
-    c.refused.ensures
+returns-in-Err c = put_case (λ a. report_text a c.args.list.now) c.in-Err.is c.refused.ensures
 
-pub returns-in-Reported : goal.returns-in-Reported
+pub returns-in-Ok : goal.returns-in-Ok
 unfolding report_text
-returns-in-Reported c =
-    put_case (λ a. report_text a c.args.list.now) c.in-Reported.is c.reported.ensures
+returns-in-Ok c = put_case (λ a. report_text a c.args.list.now) c.in-Ok.is c.reported.ensures

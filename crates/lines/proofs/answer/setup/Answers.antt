@@ -3,10 +3,10 @@ use Rattle.lines.specs.Texts.{setup_text}
 use Rattle.lines.proofs.PutLaws.{put_case}
 use Rattle.lines.proofs.answer.setup.Goals as goal
 
-pub returns-in-Refused : goal.returns-in-Refused
+pub returns-in-Err : goal.returns-in-Err
 unfolding setup_text
-returns-in-Refused c = put_case setup_text c.in-Refused.is c.refused.ensures
+returns-in-Err c = put_case setup_text c.in-Err.is c.refused.ensures
 
-pub returns-in-Accepted : goal.returns-in-Accepted
+pub returns-in-Ok : goal.returns-in-Ok
 unfolding setup_text
-returns-in-Accepted c = put_case setup_text c.in-Accepted.is c.put.ensures
+returns-in-Ok c = put_case setup_text c.in-Ok.is c.put.ensures

@@ -1,16 +1,13 @@
 -- The numbers are counted against what T and D announce. Assumes nothing.
-use native.Mathlib.Omega.{arith}
-use Rattle.lines.proofs.SetupLaws.{too_many, no_place, other_count, the_count}
+use Rattle.std.proofs.Common.{◌∙◌}
+use Rattle.lines.proofs.SetupLaws.{too_many, no_place, counted_as}
 use Rattle.lines.proofs.setups.count_place.Goals as goal
 
-pub returns-then-k-t : goal.returns-then-k-t
-returns-then-k-t c = (too_many _ _ c.word-t.ensures c.if-k-t.true, omega arith)
+pub returns-then-words-t-clause-place : goal.returns-then-words-t-clause-place
+returns-then-words-t-clause-place c = too_many _ _ c.word-t.ensures c.if-words-t.true
 
-pub returns-then-k-at : goal.returns-then-k-at
-returns-then-k-at c = (no_place _ _ c.word-t.ensures c.if-k-at.true, omega arith)
+pub returns-in_err-d-clause-place : goal.returns-in_err-d-clause-place
+returns-in_err-d-clause-place c = c.from_residual.ensures ∙ no_place _ _ c.word-t.ensures c.in_err-d.ensures.lookup.3
 
-pub returns-then-word-k : goal.returns-then-word-k
-returns-then-word-k c = (other_count _ _ c.word-t.ensures _ c.word.ensures c.if-k-at.false c.if-word-k.true, omega arith)
-
-pub returns : goal.returns
-returns c = (the_count _ _ c.word-t.ensures _ c.word.ensures c.if-k-at.false c.if-word-k.false, omega arith)
+pub returns-clause-place : goal.returns-clause-place
+returns-clause-place c = c.then_some.ensures ∙ counted_as _ _ c.word-t.ensures _ (c.in_ok-d.ensures.lookup.3.1 0) c.in_ok-d.ensures.lookup.3.0

@@ -4,6 +4,4 @@ use Rattle.lines.proofs.setups.setup_of.Goals as goal
 
 pub returns : goal.returns
 returns c =
-    setup_made _ _ _ c.word-t.ensures c.settings-a.ensures
-    c.settings-b.ensures c.settings-c.ensures c.settings-e.ensures c.homes-home.ensures
-    c.word.ensures
+    setup_made _ _ _ c.word-t.ensures c.settings.ensures c.settings-2.ensures c.settings-3.ensures c.settings-4.ensures c.homes.ensures c.word.ensures

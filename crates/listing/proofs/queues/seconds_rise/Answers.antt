@@ -1,42 +1,34 @@
-use borrow.Author.Rules.{rules}
-use native.Mathlib.Omega.{arith}
-use mathlib.Core.Path.{◌≡◌, sym, ap}
-use lib.ListN.{length}
+use Rattle.std.proofs.Common.{◌≡◌, ℕ, ◌<◌, ◌&&◌, true, false, length, take, leb, sym, ap}
+use lib.Seq.{take-length}
+use native.Mathlib.Nat.{le_refl}
+use Rattle.laws.specs.Sequence.{holds, never_falling, every_in}
 use Rattle.rules.specs.State.{at}
-use Rattle.listing.proofs.ListLaws.{rising_none, rising_more, rising_falls, rising_late, rising_done, place_below}
+use Rattle.listing.proofs.ListLaws.{rising_none, rising_more, rising_falls, rising_late, place_below}
 use Rattle.listing.proofs.queues.seconds_rise.Goals as goal
-use Rattle.listing.proofs.queues.seconds_rise.Goals.{Start}
+use Rattle.listing.proofs.queues.seconds_rise.Goals.{then-second-last-via-then-second-last, then-second-last-via-else-second-last+then-clock-second}
 
-jobs-long : (c : Start) → length c.args.q.jobs ≡ 32
-jobs-long c = search rules
+pub loop-x-init : goal.loop-x-init
+loop-x-init c = rising_none _ _ _ _
 
-pub loop-i-init : goal.loop-i-init
-loop-i-init c = (rising_none _ _ _ _, omega arith)
-
-pub offset_bounds-arrival-x : goal.offset_bounds-arrival-x
-offset_bounds-arrival-x c = omega (arith, place_below c.args.q.jobs c.args.q.count (omega (arith, jobs-long (goal.at.offset_bounds-arrival-x c).Start)) c.requires.by_index c.loop-i.i (omega arith))
-
-pub bounds-arrival-x : goal.bounds-arrival-x
-bounds-arrival-x c = omega (arith, place_below c.args.q.jobs c.args.q.count (omega (arith, jobs-long (goal.at.bounds-arrival-x c).Start)) c.requires.by_index c.loop-i.i (omega arith))
+pub bounds-arrival-from : goal.bounds-arrival-from
+bounds-arrival-from c =
+    let items = c.numbers-x-items.result.now in
+    let small : (x : ℕ) → holds x (take (length items) items) ≡ true → x < 32 = rw (take-length items, c.numbers-x-items.ensures) c.requires.by_index in
+    rw c.from.ensures (place_below items (length items) (le_refl _) small c.loop-x.x-index c.loop-x-test.true)
 
 pub returns-then-second-last : goal.returns-then-second-last
 returns-then-second-last c =
-    sym (rising_falls _ _ c.args.q.jobs c.args.q.count (omega (arith, jobs-long (goal.at.returns-then-second-last c).Start)) _ _
-    c.loop-i.invariant.0 (omega arith) _ (ap (at c.args.arrival.now) c.wide-x.ensures.0) c.if-second-last.true)
+    let items = c.numbers-x-items.result.now in
+    let f = at c.args.arrival.now in
+    let e = ap f c.from.ensures in
+    let not_rising : never_falling f (take (length items) items) && every_in (λ j. leb (f j) c.args.clock) (take (length items) items) ≡ false =
+    elim c.then-second-last.branch [
+      | then-second-last-via-then-second-last w ↦ rising_falls f c.args.clock items (length items) (le_refl _) _ _ c.loop-x.invariant c.loop-x-test.true _ e w.if-second-last.true
+      | then-second-last-via-else-second-last+then-clock-second w ↦
+          rising_late f c.args.clock items (length items) (le_refl _) _ _ c.loop-x.invariant c.loop-x-test.true _ e w.if-clock-second.true
+    ] in
+    sym (rw (take-length items, c.numbers-x-items.ensures) at not_rising)
 
-pub returns-then-clock-second : goal.returns-then-clock-second
-returns-then-clock-second c =
-    sym (rising_late _ _ c.args.q.jobs c.args.q.count (omega (arith, jobs-long (goal.at.returns-then-clock-second c).Start)) _ _
-    c.loop-i.invariant.0 (omega arith) _
-    (ap (at c.args.arrival.now) c.wide-x.ensures.0) c.if-clock-second.true)
-
-pub loop-i-preserved : goal.loop-i-preserved
-loop-i-preserved c = (
-  rising_more _ _ c.args.q.jobs c.args.q.count (omega (arith, jobs-long (goal.at.loop-i-preserved c).Start)) _ _
-      c.loop-i.invariant.0 (omega arith) _
-      (ap (at c.args.arrival.now) c.wide-x.ensures.0) c.if-second-last.false c.if-clock-second.false,
-  omega arith,
-)
-
-pub returns : goal.returns
-returns c = sym (rising_done _ _ _ c.args.q.count _ _ c.loop-i.invariant.0 (omega arith))
+pub loop-x-preserved : goal.loop-x-preserved
+loop-x-preserved c =
+    rising_more _ _ _ _ (le_refl _) _ _ c.loop-x.invariant c.loop-x-test.true _ (ap (at c.args.arrival.now) c.from.ensures) c.if-second-last.false c.if-clock-second.false

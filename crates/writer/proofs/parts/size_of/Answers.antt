@@ -1,25 +1,25 @@
 -- A group for each seven bits. Assumes nothing.
-use native.Mathlib.Omega.{arith}
+use Rattle.std.proofs.Common.{arith}
 use Rattle.journal.specs.Writes.{number_bytes}
-use Rattle.writer.proofs.NumberLaws.{size_one, size_more}
+use Rattle.writer.proofs.NumberLaws.{size_one, size_more, size_last}
 use Rattle.writer.proofs.parts.size_of.Goals as goal
 
-pub returns-then-x-lt128 : goal.returns-then-x-lt128
+pub returns-in-0-to-127 : goal.returns-in-0-to-127
 unfolding number_bytes
-returns-then-x-lt128 c = (size_one 4 _ (omega arith), omega arith)
+returns-in-0-to-127 c = (size_one 4 _ (omega arith), omega arith)
 
-pub returns-then-x-lt16384 : goal.returns-then-x-lt16384
+pub returns-in-0-to-16383 : goal.returns-in-0-to-16383
 unfolding number_bytes
-returns-then-x-lt16384 c = (size_more 4 _ (omega arith) (size_one 3 _ (omega arith)), omega arith)
+returns-in-0-to-16383 c = (size_more 4 _ (omega arith) (size_one 3 _ (omega arith)), omega arith)
 
-pub returns-then-x-lt2097152 : goal.returns-then-x-lt2097152
+pub returns-in-0-to-2097151 : goal.returns-in-0-to-2097151
 unfolding number_bytes
-returns-then-x-lt2097152 c = (size_more 4 _ (omega arith) (size_more 3 _ (omega arith) (size_one 2 _ (omega arith))), omega arith)
+returns-in-0-to-2097151 c = (size_more 4 _ (omega arith) (size_more 3 _ (omega arith) (size_one 2 _ (omega arith))), omega arith)
 
-pub returns-then-x-lt268435456 : goal.returns-then-x-lt268435456
+pub returns-in-0-to-268435455 : goal.returns-in-0-to-268435455
 unfolding number_bytes
-returns-then-x-lt268435456 c = (size_more 4 _ (omega arith) (size_more 3 _ (omega arith) (size_more 2 _ (omega arith) (size_one 1 _ (omega arith)))), omega arith)
+returns-in-0-to-268435455 c = (size_more 4 _ (omega arith) (size_more 3 _ (omega arith) (size_more 2 _ (omega arith) (size_one 1 _ (omega arith)))), omega arith)
 
-pub returns : goal.returns
+pub returns-in_default : goal.returns-in_default
 unfolding number_bytes
-returns c = (size_more 4 _ (omega arith) (size_more 3 _ (omega arith) (size_more 2 _ (omega arith) (size_more 1 _ (omega arith) (size_one 0 _ (omega arith))))), omega arith)
+returns-in_default c = (size_more 4 _ (omega arith) (size_more 3 _ (omega arith) (size_more 2 _ (omega arith) (size_more 1 _ (omega arith) (size_last _)))), omega arith)

@@ -1,15 +1,10 @@
-use native.Mathlib.Omega.{arith}
-use Rattle.writer.proofs.NumberLaws.{small_at, sized_none, sized_next, sized_all}
+-- The library's sum, as the definition says it. Assumes nothing.
+use Rattle.std.proofs.Common.{◌≡◌, ◌∙◌, rules, arith}
+use Rattle.std.specs.List.{sum_by}
+use Rattle.writer.proofs.NumberLaws.{bytes_in, sizes_sum, sizes_few}
 use Rattle.writer.proofs.parts.size_of_all.Goals as goal
 
-pub loop-i-init : goal.loop-i-init
-loop-i-init c = sized_none _
-
-pub size_of-size-requires : goal.size_of-size-requires
-size_of-size-requires c = small_at _ _ c.loop-i-test.true c.requires.1
-
-pub loop-i-preserved : goal.loop-i-preserved
-loop-i-preserved c = sized_next _ _ c.loop-i.invariant c.loop-i-test.true c.size_of-size.ensures.0 c.size_of-size.ensures.1
-
 pub returns : goal.returns
-returns c = (sized_all _ _ c.loop-i.invariant (omega arith), omega arith)
+returns c =
+    let e : c.sum.result ≡ sum_by bytes_in c.args.list.now = search rules in
+    (e ∙ sizes_sum c.args.list.now, omega (arith, e, sizes_sum c.args.list.now, sizes_few c.args.list.now))

@@ -1,9 +1,0 @@
--- The measure is the rounds that are left. Assumes nothing.
-use Rattle.std.proofs.Common.{◌≤◌}
-use Rattle.measure.proofs.loads.picks.Given as goal
-
-abbrev pub invariant-loop-left : goal.invariant-loop-left
-invariant-loop-left l = l.left ≤ l.rounds
-
-abbrev pub decreases-loop-left : goal.decreases-loop-left
-decreases-loop-left l = l.left

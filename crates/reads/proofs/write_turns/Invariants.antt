@@ -1,9 +1,0 @@
--- The buffer's length stays. The measure is the rounds that are left. Assumes nothing.
-use Rattle.std.proofs.Common.{◌≡◌, length}
-use Rattle.reads.proofs.write_turns.Given as goal
-
-abbrev pub invariant-loop-left : goal.invariant-loop-left
-invariant-loop-left l = length l.buffer ≡ length l.initial.buffer
-
-abbrev pub decreases-loop-left : goal.decreases-loop-left
-decreases-loop-left l = l.left
