@@ -17,7 +17,8 @@ pub enum RunEnd {
     NoRoom = 4,
 }
 
-// How many numbers a call has before its destinations; none for an unknown kind.
+// How many numbers a call has before its destinations; none for an unknown kind. A kind is matched where it is read: an enum in between would be matched
+// a second time.
 fn head_of(kind: u64) -> Option<usize>
     ensures { MatchOption result (head_of kind ≡ 0) (λ n. (n ≡ head_of kind) × (0 < n)) }
 {

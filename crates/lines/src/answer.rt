@@ -12,7 +12,7 @@ use rules::{JobAnswer, Move, PickAnswer, Refusal, ReportAnswer, State};
 use std::io;
 use std::io::Write;
 
-// What a call hands back: the state, and how many bytes its line of answer has.
+// What a call hands back: the state, and where its answer ends in the buffer.
 #[derive(Clone, Copy)]
 pub struct Reply {
     pub state: State,

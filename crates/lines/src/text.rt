@@ -4,7 +4,7 @@ ghost use Rattle.std.specs.Option.{is_some, unwrap_or};
 ghost use Rattle.lines.specs.Words.{words_of, number_of};
 ghost use Rattle.lines.specs.Words.{FirstFrom, is_byte, not_blank, Read};
 
-// The first place from `from` on and below `to` that holds the byte; `to` where there is none.
+// The first place from `from` on and below `to` that holds the byte; `to` where there is none: what is asked of it is the slice up to there.
 pub fn find(s: &[u8], from: usize, to: usize, b: u8) -> usize
     requires { (from ≤ to) × (to ≤ length s.now) }
     ensures { FirstFrom (is_byte s.now b) from to result }
@@ -15,7 +15,7 @@ pub fn find(s: &[u8], from: usize, to: usize, b: u8) -> usize
     }
 }
 
-// The first place from `from` on that holds no blank; the length where there is none.
+// The first place from `from` on that holds no blank; the length where there is none, as in `find`.
 pub fn skip_blanks(s: &[u8], from: usize) -> usize
     requires { from ≤ length s.now }
     ensures { FirstFrom (not_blank s.now) from (length s.now) result }

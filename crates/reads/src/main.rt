@@ -42,7 +42,8 @@ fn main(rt: HostRuntime) -> io::Result<()> {
     rt.write_all(buffer)
 }
 
-// Puts the first argument at the front of the buffer, and answers its length; 0 where there is none, or one that is longer than the buffer.
+// Puts the first argument at the front of the buffer, and answers its length; 0 where there is none, or one that is longer than the
+// buffer: no argument is an empty one here. `measure` and `reads` share no crate, so each has it.
 fn first_argument<E: Env>(rt: &E, space: &mut [u8]) -> usize
     ensures { result ≤ length space.new }
 {

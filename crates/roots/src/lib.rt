@@ -1,5 +1,5 @@
-// Document 02, A6: "a table of 1,000 numbers R, the greatest whole R with R·R·N ≤ U·U for N = 1 to 1,000". There is no memory but the stack for a
-// constant to stand in: what is read is first written there. So the table has two parts, by the width of its numbers, and only one of them is written.
+// Document 02, A6: "a table of 1,000 numbers R, the greatest whole R with R·R·N ≤ U·U for N = 1 to 1,000". The table has
+// two parts, by the width of its numbers: some 4 KB, where one table of the wider ones takes 8.
 #![tactic(auto)]
 
 ghost use Rattle.std.specs.Prelude.{◌≡◌, ◌≤◌, ◌<◌};

@@ -12,7 +12,8 @@ use std::fmt;
 // The parts that stand for 1 (`U` of specs/Sizes.antt).
 pub const U: u64 = 23_279_256_000;
 
-// A feedback: percent, and its form, 0 flat, 1 per window or 2 by the square root.
+// A feedback: percent, and its form, 0 flat, 1 per window or 2 by the square root. A set-up may hold any form, and `settings_in_range` tells the wrong
+// ones: so it stays a number.
 #[derive(Clone, Copy)]
 pub struct Feedback {
     pub percent: u64,
@@ -89,7 +90,7 @@ impl JobList {
     }
 }
 
-// The jobs, a column a field.
+// The jobs, a column a field. A state may hold any numbers, and `sound` tells the wrong ones: so a link and a turn stay numbers.
 #[derive(Clone, Copy)]
 pub struct Jobs {
     pub present: [bool; 32],
@@ -110,7 +111,7 @@ pub struct Jobs {
     pub order: [u8; 1024],
 }
 
-// The entries, a column a field. Kind: 0 free, 1 waiting, 2 busy.
+// The entries, a column a field. Kind: 0 free, 1 waiting, 2 busy; a state may hold others, so it stays a number.
 #[derive(Clone, Copy)]
 pub struct Entries {
     pub kind: [u8; 512],
@@ -126,7 +127,7 @@ pub struct State {
     pub clock: u32,
     // the next ticket
     pub ticket: u32,
-    // 0 before the first pick, else the last transport picked from, plus 1
+    // 0 before the first pick, else the last transport picked from, plus 1; any number may stand here, too
     pub turn: u8,
     pub destinations: [Destination; 32],
     pub busy: Busy,

@@ -109,7 +109,7 @@ fn read_setup(words: &[u64]) -> Setup {
     }
 }
 
-// The numbers from a place on, at the start of the lent words, and how many there are; none where one is no number.
+// The numbers from a place on, at the start of the lent words, and how many there are; 0 where one is no number.
 fn numbers(line: &[u8], from: usize, words: &mut [u64]) -> usize
     requires { (from ≤ length line.now) × (length line.now ≤ from + 2 * length words.old) }
     ensures { result ≤ length words.new }

@@ -9,7 +9,7 @@ ghost use Rattle.writer.specs.Parts.{unless, Stored};
 
 use rules::Refusal;
 
-// Whether so many bytes fit behind those that are used.
+// Refuses what does not fit behind the bytes that are used.
 pub fn fits(room: usize, used: usize, size: usize) -> Result<(), Refusal>
     ensures { result ≡ unless (leb (used + size) room) Refusal.Room }
 {
@@ -20,7 +20,7 @@ pub fn fits(room: usize, used: usize, size: usize) -> Result<(), Refusal>
     }
 }
 
-// Whether a field is from low to high.
+// Refuses a field that is not from low to high.
 pub fn in_range(x: u64, low: u64, high: u64) -> Result<(), Refusal>
     ensures { result ≡ unless (within low high x) Refusal.OutOfRange }
 {
@@ -31,7 +31,7 @@ pub fn in_range(x: u64, low: u64, high: u64) -> Result<(), Refusal>
     }
 }
 
-// Whether a field is below 2^32.
+// Refuses a field of 2^32 and more.
 pub fn small(x: u64) -> Result<(), Refusal>
     ensures { result ≡ unless (small x) Refusal.OutOfRange }
 {
