@@ -64,6 +64,7 @@ pub fn call(
     ensures state { result.state ≡ state_on s (call_line name.now words.now list.old written.old) }
     ensures text { Put (text_on s (call_line name.now words.now list.old written.old)) out.old 0 out.new result.length }
 {
+    // a match of the byte strings leaves default cases that an answer has no names for
     if name == b"setup".as_slice() {
         return set_up(words, out, s);
     }

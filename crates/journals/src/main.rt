@@ -44,7 +44,7 @@ fn run<R: Read, W: Write>(
     requires { length cases.old ≤ 2 * length words.old }
 {
     let n = input::read_whole(from, cases)?;
-    let mut at: usize = 0;
+    let mut at = 0;
     while at < n {
         let end = find(cases, at, n, b'\n');
         step(to, &cases[at..end], words, journal, out)?;
@@ -66,40 +66,41 @@ fn step<W: Write>(
     to.write_all(line)?;
     let at = text::skip_blanks(line, 0);
     let end = find(line, at, line.len(), b' ');
-    let k = text::read_numbers(line, end, words).unwrap_or(0);
-    if k == 0 {
-        return to.write_all(b"\n");
-    }
+    let k = match text::read_numbers(line, end, words) {
+        Some(k) if 0 < k => k,
+        _ => return to.write_all(b"\n"),
+    };
     to.write_all(b" -> ")?;
     let length = told(&line[at..end], &words[..k], journal, out);
     answer::write(to, out, length)
 }
 
-// What a line of that name says of these numbers.
+// What a line of that name says of these numbers. To read and to replay, the first is an offset or a budget, and the others are a journal's
+// bytes.
 fn told(name: &[u8], words: &[u64], space: &mut [u8], out: &mut [u8]) -> usize {
-    if name == b"write".as_slice() {
-        return writes::put_write(out, words, space);
+    let [x, bytes @ ..] = words else {
+        return 0;
+    };
+    match name {
+        b"write" => writes::put_write(out, words, space),
+        b"read" => {
+            let many = fill(bytes, space);
+            show::put_read(out, &space[..many], *x)
+        }
+        _ => {
+            let many = fill(bytes, space);
+            show::put_replay(out, &space[..many], *x)
+        }
     }
-    let from = text::at_most(1, words.len());
-    let many = fill(&words[from..], space);
-    tell(name, &space[..many], text::word(words, 0), out)
-}
-
-// What a line of that name asks of a journal.
-fn tell(name: &[u8], journal: &[u8], x: u64, out: &mut [u8]) -> usize {
-    if name == b"read".as_slice() {
-        return show::put_read(out, journal, x);
-    }
-    show::put_replay(out, journal, x)
 }
 
 // Puts the words, each below 256, at the start of the bytes, as far as there is room, and answers how many there are.
 pub fn fill(words: &[u64], bytes: &mut [u8]) -> usize
     ensures { result ≤ length bytes.new }
 {
-    let count = text::at_most(words.len() as u64, bytes.len());
-    for (b, &x) in bytes.iter_mut().zip(words) {
-        *b = (x % 256) as u8;
+    let count = words.len().min(bytes.len());
+    for (byte, word) in bytes.iter_mut().zip(words) {
+        *byte = (word % 256) as u8;
     }
     count
 }

@@ -1,5 +1,5 @@
 // What stands at an offset of a journal, and its replay, as a line of text.
-use journal::{Record, Unreadable, Whole};
+use journal::Record;
 use lines::answer::{put, put_byte, put_number, put_text};
 use lines::text::at_most;
 use reader::{name_at, read_at};
@@ -10,17 +10,17 @@ pub fn put_read(out: &mut [u8], journal: &[u8], x: u64) -> usize {
     let at = x as usize;
     let r = read_at(journal, at);
     match r.answer {
-        Ok(Some(Whole { what, next })) => {
-            let mut p = put_record(out, what, &r.destinations, name_at(journal, at));
-            p = put(out, p, b" next");
-            p = put_number(out, p, next as u64);
+        Ok(Some(whole)) => {
+            let p = put_record(out, whole.what, &r.destinations, name_at(journal, at));
+            let p = put(out, p, b" next");
+            let p = put_number(out, p, whole.next as u64);
             put_byte(out, p, b'\n')
         }
         Ok(None) => put(out, 0, b"end\n"),
-        Err(Unreadable { refusal, offset }) => {
-            let mut p = put(out, 0, b"refused");
-            p = put_number(out, p, u64::from(refusal.number()));
-            p = put_number(out, p, offset as u64);
+        Err(u) => {
+            let p = put(out, 0, b"refused");
+            let p = put_number(out, p, u64::from(u.refusal.number()));
+            let p = put_number(out, p, u.offset as u64);
             put_byte(out, p, b'\n')
         }
     }
@@ -33,7 +33,7 @@ fn put_record(out: &mut [u8], what: Record, dests: &[u64], name: &[u8]) -> usize
             length,
         } => {
             let p = put_fields(out, b"name", &[destination, length]);
-            put_bytes(out, p, name)
+            put_all(out, p, name)
         }
         Record::Job {
             clock,
@@ -41,7 +41,7 @@ fn put_record(out: &mut [u8], what: Record, dests: &[u64], name: &[u8]) -> usize
             count,
         } => {
             let p = put_fields(out, b"job", &[clock, transport, count]);
-            put_list(out, p, &dests[..at_most(count, dests.len())])
+            put_all(out, p, &dests[..at_most(count, dests.len())])
         }
         Record::Pick { clock } => put_fields(out, b"pick", &[clock]),
         Record::Report {
@@ -59,7 +59,7 @@ fn put_record(out: &mut [u8], what: Record, dests: &[u64], name: &[u8]) -> usize
 // A word, and these numbers.
 fn put_fields(out: &mut [u8], word: &[u8], fields: &[u64]) -> usize {
     let p = put(out, 0, word);
-    put_list(out, p, fields)
+    put_all(out, p, fields)
 }
 
 fn put_outcome(out: &mut [u8], at: usize, outcome: Outcome) -> usize {
@@ -69,19 +69,11 @@ fn put_outcome(out: &mut [u8], at: usize, outcome: Outcome) -> usize {
     }
 }
 
-// Each byte as a number.
-pub fn put_bytes(out: &mut [u8], at: usize, bytes: &[u8]) -> usize {
-    let mut p = at;
-    for &b in bytes {
-        p = put_number(out, p, u64::from(b));
-    }
-    p
-}
-
-fn put_list(out: &mut [u8], at: usize, list: &[u64]) -> usize {
+// Each element as a number.
+pub fn put_all<T: Copy + Into<u64>>(out: &mut [u8], at: usize, list: &[T]) -> usize {
     let mut p = at;
     for &x in list {
-        p = put_number(out, p, x);
+        p = put_number(out, p, x.into());
     }
     p
 }
@@ -90,8 +82,8 @@ fn put_list(out: &mut [u8], at: usize, list: &[u64]) -> usize {
 pub fn put_replay(out: &mut [u8], journal: &[u8], budget: u64) -> usize {
     let mut space = [0u8; 4096];
     let r = replaying::replay(journal, budget, &mut space);
-    let mut p = put_text(out, 0, r.length as u64, &space);
-    p = put(out, p, b" used");
-    p = put_number(out, p, r.used);
+    let p = put_text(out, 0, r.length as u64, &space);
+    let p = put(out, p, b" used");
+    let p = put_number(out, p, r.used);
     put_byte(out, p, b'\n')
 }

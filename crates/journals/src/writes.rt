@@ -1,6 +1,6 @@
 // A record that is written into a buffer, as a line of text.
 use crate::fill;
-use crate::show::put_bytes;
+use crate::show::put_all;
 use lines::answer::{put, put_byte, put_number};
 use lines::text::{at_most, word};
 use rules::Refusal;
@@ -9,13 +9,12 @@ use rules::Refusal;
 // of it is 9.
 pub fn put_write(out: &mut [u8], words: &[u64], space: &mut [u8]) -> usize {
     let length = at_most(word(words, 0), space.len());
-    space[..length].fill(9);
+    let buffer = &mut space[..length];
+    buffer.fill(9);
     let used = word(words, 1) as usize;
-    let kind = word(words, 2);
-    let from = at_most(3, words.len());
-    let a = write(&mut space[..length], used, kind, &words[from..]);
-    let mut p = put_answer(out, a);
-    p = put_bytes(out, p, &space[..length]);
+    let a = write(buffer, used, word(words, 2), from(words, 3));
+    let p = put_answer(out, a);
+    let p = put_all(out, p, buffer);
     put_byte(out, p, b'\n')
 }
 
@@ -26,17 +25,18 @@ fn write(buffer: &mut [u8], used: usize, kind: u64, fields: &[u64]) -> Result<us
     match kind {
         0 => {
             let mut name = [0u8; 256];
-            let from = at_most(1, fields.len());
-            let length = fill(&fields[from..], &mut name);
+            let length = fill(from(fields, 1), &mut name);
             writer::write_name(buffer, used, a, &name[..length])
         }
-        1 => {
-            let from = at_most(2, fields.len());
-            writer::write_job(buffer, used, a, b, &fields[from..])
-        }
+        1 => writer::write_job(buffer, used, a, b, from(fields, 2)),
         2 => writer::write_pick(buffer, used, a),
         _ => writer::write_report(buffer, used, a, b, word(fields, 2), word(fields, 3)),
     }
+}
+
+// The words from a place on, if there are so many.
+fn from(words: &[u64], place: usize) -> &[u64] {
+    words.get(place..).unwrap_or(&[])
 }
 
 fn put_answer(out: &mut [u8], a: Result<usize, Refusal>) -> usize {

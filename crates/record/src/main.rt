@@ -153,6 +153,7 @@ fn write_numbers(word: &[u8], words: &[u64], out: &mut [u8]) -> Result<usize, Un
     requires { 1300 ≤ length out.old }
     ensures { Done (numbers_line word.now words.now) (of_record result) out.new }
 {
+    // as in `calling::call`, the names are compared: a match leaves default cases that an answer has no names for
     if word == b"job".as_slice() {
         return write_job(words, out);
     }

@@ -1,35 +1,28 @@
 -- The budget that a word asks for.
-use Prim.Native.Nat.{ℕ, ◌<◌, min}
-use mathlib.Core.Path.{◌≡◌, sym, ap, ◌∙◌}
-use mathlib.Core.Bool.{Bool, true, false, ◌&&◌}
-use mathlib.Core.List.{List}
-use native.Mathlib.Omega.{arith}
-use lib.ListN.{length}
-use lib.Dec.{ltb}
-use borrow.Author.Tests.{lt-ltb, le-ltb, ltb-true, ltb-false}
+use Rattle.std.proofs.Common.{ℕ, ◌≡◌, min, Bool, true, false, ◌&&◌, List, length, eqb, ltb, Option, Some, None, sym, ap, ◌∙◌, arith}
+use Rattle.std.specs.Option.{unwrap_or}
+use borrow.Author.Tests.{eqb-true, eqb-false, lt-ltb, le-ltb, ltb-true, ltb-false}
 use Rattle.laws.specs.Sequence.{every_in}
 use Rattle.laws.proofs.Bools.{if_true, if_false, and_left_false, and_right}
-use Rattle.std.specs.Prelude.{Option, Some, None}
-use Rattle.std.specs.Option.{unwrap_or}
 use Rattle.lines.specs.Words.{is_digit, value_of, is_number, number_of}
 use Rattle.lines.proofs.ReadingLaws.{number_is, number_not}
 use Rattle.replay.specs.Budget.{is_decimal, all, budget_of}
 
 module _ (word : List ℕ) where
-  pub decimal_of : {b : Bool} → 0 < length word → b ≡ every_in is_digit word → b ≡ is_decimal word
+  pub decimal_none : eqb (length word) 0 ≡ true → false ≡ is_decimal word
   unfolding is_decimal
-  decimal_of h e = e ∙ sym (ap (λ t. t && every_in is_digit word) (lt-ltb 0 (length word) h))
+  decimal_none h = sym (and_left_false (every_in is_digit word) (le-ltb 0 (length word) (omega (arith, eqb-true (length word) 0 h))))
 
-  pub decimal_none : length word ≡ 0 → false ≡ is_decimal word
+  pub decimal_some : eqb (length word) 0 ≡ false → {all_digits : Bool} → all_digits ≡ every_in is_digit word → all_digits ≡ is_decimal word
   unfolding is_decimal
-  decimal_none h = sym (and_left_false (every_in is_digit word) (le-ltb 0 (length word) (omega (arith, h))))
+  decimal_some h e = e ∙ sym (ap (λ b. b && every_in is_digit word) (lt-ltb 0 (length word) (omega (arith, eqb-false (length word) 0 h))))
 
   pub budget_not : is_decimal word ≡ false → all ≡ budget_of word
   unfolding budget_of
   budget_not f = sym (if_false _ _ f)
 
   module _ (t : is_decimal word ≡ true) where
-    pub budget_is : (x : ℕ) → number_of word ≡ Some x → x ≡ budget_of word
+    budget_is : (x : ℕ) → number_of word ≡ Some x → x ≡ budget_of word
     unfolding budget_of is_number
     budget_is x e =
         let n = number_is word x e in
@@ -38,7 +31,7 @@ module _ (word : List ℕ) where
         m ∙ sym (if_true _ _ t)
 
     -- digits that are no number are 2^64 or more
-    pub budget_past : number_of word ≡ None → all ≡ budget_of word
+    budget_past : number_of word ≡ None → all ≡ budget_of word
     unfolding budget_of is_number is_decimal
     budget_past e =
         let d : every_in is_digit word ≡ true = and_right (ltb 0 (length word)) (every_in is_digit word) t in
@@ -47,6 +40,6 @@ module _ (word : List ℕ) where
         let m : all ≡ min (value_of word) all = omega (arith, ltb-false (value_of word) 18446744073709551616 f) in
         m ∙ sym (if_true _ _ t)
 
-    pub budget_told : (o : Option ℕ) → number_of word ≡ o → unwrap_or o all ≡ budget_of word
-    budget_told (Some x) e = budget_is x e
-    budget_told None e = budget_past e
+    pub budget_read : (o : Option ℕ) → o ≡ number_of word → unwrap_or o all ≡ budget_of word
+    budget_read (Some x) e = budget_is x (sym e)
+    budget_read None e = budget_past (sym e)

@@ -2,9 +2,10 @@
 #![tactic(auto)]
 
 ghost use Rattle.std.specs.Prelude.{◌+◌, ◌*◌, ◌≤◌, ◌≡◌, length, take};
+ghost use Rattle.std.specs.Option.{is_some, unwrap_or};
 ghost use Rattle.journal.specs.Journals.{journal_of};
 ghost use Rattle.replaying.specs.Replay.{replay_text};
-ghost use Rattle.replay.specs.Budget.{is_decimal, budget_of};
+ghost use Rattle.replay.specs.Budget.{is_decimal, all, budget_of};
 
 use lines::{answer, input, text};
 use std::env::{Env, FillError};
@@ -41,8 +42,7 @@ fn run<R: Read, W: Write>(
     requires { 5 * length journal.old + 4096 ≤ length out.old }
 {
     let n = input::read_whole(from, journal)?;
-    let read = &journal[..];
-    let length = text_of(&read[..n], budget, out);
+    let length = text_of(&journal[..n], budget, out);
     answer::write(to, out, length)
 }
 
@@ -63,26 +63,31 @@ fn asked<E: Env + Eprint>(rt: &E) -> io::Result<u64> {
         Err(FillError::NotPresent) => return Ok(u64::MAX),
         Err(FillError::TooLong) => 0,
     };
-    let word = &space[..n];
-    if !is_decimal(word) {
-        eprintln!(rt; "replay: the first argument is not a number of records; all are replayed")?;
+    match budget_of(&space[..n]) {
+        Some(budget) => Ok(budget),
+        None => {
+            eprintln!(rt;
+                "replay: the first argument is not a number of records; all are replayed"
+            )?;
+            Ok(u64::MAX)
+        }
     }
-    Ok(budget_of(word))
 }
 
-// The budget of a word; all records where it is no number.
-fn budget_of(word: &[u8]) -> u64
-    ensures { result ≡ budget_of word.now }
+// The budget of a word; none where it is no number. A number past every journal is all records.
+fn budget_of(word: &[u8]) -> Option<u64>
+    ensures told { is_some result ≡ is_decimal word.now }
+    ensures budget { unwrap_or result all ≡ budget_of word.now }
 {
     if !is_decimal(word) {
-        return u64::MAX;
+        return None;
     }
-    text::read_number(word).unwrap_or(u64::MAX)
+    Some(text::read_number(word).unwrap_or(u64::MAX))
 }
 
 // Digits only, at least one.
 fn is_decimal(word: &[u8]) -> bool
     ensures { result ≡ is_decimal word.now }
 {
-    !word.is_empty() && word.iter().all(|&b| b.is_ascii_digit())
+    !word.is_empty() && word.iter().all(|b| b.is_ascii_digit())
 }

@@ -18,7 +18,7 @@ use std::io;
 use std::io::{Read, Write};
 
 // The set-up, and how many numbers of calls there are.
-#[derive(Drop)]
+#[derive(Clone, Copy)]
 struct Desk {
     setup: Setup,
     count: usize,
@@ -54,7 +54,7 @@ fn read_lines<R: Read, W: Write>(
         setup: startup::zero_setup(),
         count: 0,
     };
-    let mut at: usize = 0;
+    let mut at = 0;
     while at < n {
         let end = find(cases, at, n, b'\n');
         desk = step(to, &cases[at..end], words, list, out, desk)?;
@@ -74,31 +74,27 @@ fn step<W: Write>(
 ) -> io::Result<Desk>
     requires { length line.now ≤ 2 * length words.old }
 {
-    let setup = desk.setup;
     let at = text::skip_blanks(line, 0);
     if line.len() <= at || line[at] == b'#' {
         return Ok(desk);
     }
     let end = find(line, at, line.len(), b' ');
-    let name = &line[at..end];
-    if name == b"setup".as_slice() {
-        let k = numbers(line, end, words);
-        return Ok(Desk {
-            setup: read_setup(&words[..k]),
+    match &line[at..end] {
+        b"setup" => Ok(Desk {
+            setup: read_setup(numbers(line, end, words)),
             count: 0,
-        });
+        }),
+        b"run" => {
+            let rooms = numbers(line, end, words);
+            let count = desk.count.min(list.len());
+            run(to, desk.setup, &list[..count], rooms, out)?;
+            Ok(Desk { count: 0, ..desk })
+        }
+        _ => Ok(Desk {
+            count: append(numbers(line, at, words), list, desk.count),
+            ..desk
+        }),
     }
-    if name == b"run".as_slice() {
-        let k = numbers(line, end, words);
-        let count = text::at_most(desk.count as u64, list.len());
-        run(to, setup, &list[..count], &words[..k], out)?;
-        return Ok(Desk { setup, count: 0 });
-    }
-    let k = numbers(line, at, words);
-    Ok(Desk {
-        setup,
-        count: append(&words[..k], list, desk.count),
-    })
 }
 
 // The set-up of these numbers; one of all zeros, which is refused, where they are not as many as it announces.
@@ -109,24 +105,22 @@ fn read_setup(words: &[u64]) -> Setup {
     }
 }
 
-// The numbers from a place on, at the start of the lent words, and how many there are; 0 where one is no number.
-fn numbers(line: &[u8], from: usize, words: &mut [u64]) -> usize
+// The numbers from a place on, at the start of the lent words; none where a word is no number.
+fn numbers<'a>(line: &[u8], from: usize, words: &'a mut [u64]) -> &'a [u64]
     requires { (from ≤ length line.now) × (length line.now ≤ from + 2 * length words.old) }
-    ensures { result ≤ length words.new }
 {
-    text::read_numbers(line, from, words).unwrap_or(0)
+    match text::read_numbers(line, from, words) {
+        Some(k) => &words[..k],
+        None => &[],
+    }
 }
 
 // Puts the words behind the first `count` numbers of the list, as far as it has room, and answers how many it holds then.
 fn append(words: &[u64], list: &mut [u64], count: usize) -> usize {
-    let mut at = count;
-    for &x in words {
-        if at < list.len() {
-            list[at] = x;
-            at += 1;
-        }
-    }
-    at
+    let from = count.min(list.len());
+    let n = words.len().min(list.len() - from);
+    list[from..from + n].copy_from_slice(&words[..n]);
+    from + n
 }
 
 // Runs the calls, and writes each answer, each place of a list that was written, the texts, and the end.
@@ -175,38 +169,33 @@ fn show_row<W: Write>(to: &mut W, i: u64, row: &[u64], out: &mut [u8]) -> io::Re
     answer::write(to, out, p)
 }
 
+// Each place that was written, on a line.
 fn show_lists<W: Write>(to: &mut W, lists: &[u16], out: &mut [u8]) -> io::Result<()> {
     for (i, &x) in lists.iter().enumerate() {
-        show_place(to, i as u64, u64::from(x), out)?;
+        if x != 999 {
+            let p = answer::put(out, 0, b"list");
+            let p = answer::put_number(out, p, i as u64);
+            let p = answer::put_byte(out, p, b':');
+            let p = answer::put_number(out, p, u64::from(x));
+            let p = answer::put_byte(out, p, b'\n');
+            answer::write(to, out, p)?;
+        }
     }
     Ok(())
 }
 
-// A place that was written.
-fn show_place<W: Write>(to: &mut W, i: u64, x: u64, out: &mut [u8]) -> io::Result<()> {
-    if x == 999 {
-        return Ok(());
-    }
-    let mut p = answer::put(out, 0, b"list");
-    p = answer::put_number(out, p, i);
-    p = answer::put_byte(out, p, b':');
-    p = answer::put_number(out, p, x);
-    p = answer::put_byte(out, p, b'\n');
-    answer::write(to, out, p)
-}
-
 fn show_texts<W: Write>(to: &mut W, texts: &[u8], n: usize, out: &mut [u8]) -> io::Result<()> {
-    let mut p = answer::put(out, 0, b"texts ");
-    p = answer::put_text(out, p, n as u64, texts);
-    p = answer::put_byte(out, p, b'\n');
+    let p = answer::put(out, 0, b"texts ");
+    let p = answer::put_text(out, p, n as u64, texts);
+    let p = answer::put_byte(out, p, b'\n');
     answer::write(to, out, p)
 }
 
 fn show_end<W: Write>(to: &mut W, made: u64, end: RunEnd, out: &mut [u8]) -> io::Result<()> {
-    let mut p = answer::put(out, 0, b"ran");
-    p = answer::put_number(out, p, made);
-    p = put_end(out, p, end);
-    p = answer::put_byte(out, p, b'\n');
+    let p = answer::put(out, 0, b"ran");
+    let p = answer::put_number(out, p, made);
+    let p = put_end(out, p, end);
+    let p = answer::put_byte(out, p, b'\n');
     answer::write(to, out, p)
 }
 

@@ -1,17 +1,11 @@
 -- What was read is the number of the word; digits that are no number ask for all. Assumes nothing.
-use mathlib.Core.Path.{◌≡◌, sym, ◌∙◌}
-use mathlib.Core.Bool.{true}
-use Rattle.replay.specs.Budget.{is_decimal}
-use Rattle.replay.proofs.BudgetLaws.{budget_not, budget_told}
+use Rattle.std.proofs.Common.{sym, ◌∙◌}
+use Rattle.replay.proofs.BudgetLaws.{budget_not, budget_read}
 use Rattle.replay.proofs.budget_of.Goals as goal
-use Rattle.replay.proofs.budget_of.Goals.{Else-not-is_decimal}
 
--- past the first test the word is decimal
-decimal : (c : Else-not-is_decimal) → is_decimal c.args.word.now ≡ true
-decimal c = sym c.is_decimal.ensures ∙ c.if-not-is_decimal.false
+pub returns-then-not-is_decimal-clause-budget : goal.returns-then-not-is_decimal-clause-budget
+returns-then-not-is_decimal-clause-budget c = budget_not _ (sym c.is_decimal.ensures ∙ c.if-not-is_decimal.true)
 
-pub returns-then-not-is_decimal : goal.returns-then-not-is_decimal
-returns-then-not-is_decimal c = budget_not _ (sym c.is_decimal.ensures ∙ c.if-not-is_decimal.true)
-
-pub returns : goal.returns
-returns c = c.unwrap_or.ensures ∙ budget_told _ (decimal (goal.at.returns c).Else-not-is_decimal) c.read_number.result (sym c.read_number.ensures)
+pub returns-clause-budget : goal.returns-clause-budget
+returns-clause-budget c =
+    c.unwrap_or.ensures ∙ budget_read _ (sym c.is_decimal.ensures ∙ c.if-not-is_decimal.false) c.read_number.result c.read_number.ensures

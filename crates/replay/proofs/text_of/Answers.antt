@@ -1,5 +1,5 @@
 -- The buffer has room for the whole text. Assumes nothing.
-use native.Mathlib.Omega.{arith}
+use Rattle.std.proofs.Common.{arith}
 use Rattle.replay.proofs.text_of.Goals as goal
 
 pub returns : goal.returns
