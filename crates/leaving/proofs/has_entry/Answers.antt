@@ -1,14 +1,17 @@
-use Rattle.std.proofs.Common.{rules, tests, sym, ◌∙◌, ◌≡◌}
-use Rattle.std.specs.List.{list_any, zip}
-use Rattle.std.proofs.lemmas.Iterator.{YieldsList-from_slice, YieldsList-from_zip}
-use Rattle.std.proofs.lemmas.Iterator.Search.{any_from_yields_List}
-use Rattle.leaving.proofs.Rows.{is_used, used_any}
+use Rattle.std.proofs.Common.{refl, sym, ap, ◌∙◌, ◌≡◌, ◌||◌, arith}
+use Rattle.laws.specs.Range.{any_to}
+use Rattle.laws.proofs.All.{any_step}
+use Rattle.leaving.specs.Leaving.{used_at}
 use Rattle.leaving.proofs.has_entry.Goals as goal
 
+pub loop-e-init : goal.loop-e-init
+unfolding any_to
+loop-e-init c = refl
+
+pub loop-e-preserved : goal.loop-e-preserved
+loop-e-preserved c =
+    let p = used_at c.args.kind.now c.args.job.now c.args.j in
+    ap (λ b. b || p c.loop-e.e) c.loop-e.invariant ∙ sym (any_step p c.loop-e.e)
+
 pub returns : goal.returns
-returns c =
-    let kind = c.args.kind.now in
-    let job = c.args.job.now in
-    let e : c.any.result ≡ list_any (is_used c.args.j) (zip kind job) =
-    any_from_yields_List (is_used c.args.j) c.any.new.self _ c.any.result c.any.ensures.ran (YieldsList-from_zip (YieldsList-from_slice kind cc) (YieldsList-from_slice job cc)) (λ x b q k. search (rules, tests)) in
-    e ∙ sym (used_any kind job c.args.j (search rules) (search rules))
+returns c = let e : c.loop-e.e ≡ 512 = omega arith in c.loop-e.invariant ∙ ap (any_to (used_at c.args.kind.now c.args.job.now c.args.j)) e

@@ -1,19 +1,17 @@
-use Rattle.std.proofs.Common.{arith, rules, tests, sym, ap, ◌∙◌, ◌*◌, ◌+◌, ◌-◌, ◌≡◌, take, drop}
-use Rattle.std.specs.List.{list_any, enumerate_from}
-use Rattle.std.proofs.lemmas.Iterator.{YieldsList-from_slice}
-use Rattle.std.proofs.lemmas.Iterator.Consumers.{YieldsList-from_enumerate}
-use Rattle.std.proofs.lemmas.Iterator.Search.{any_from_yields_List}
-use Rattle.std.specs.Slice.Iter.{iter_rest}
-use Rattle.leaving.proofs.Rows.{is_elsewhere, elsewhere_any}
+use Rattle.std.proofs.Common.{refl, sym, ap, ◌∙◌, ◌≡◌, ◌||◌, arith}
+use Rattle.laws.specs.Range.{any_to}
+use Rattle.laws.proofs.All.{any_step}
+use Rattle.leaving.specs.Leaving.{elsewhere}
 use Rattle.leaving.proofs.waits_elsewhere.Goals as goal
 
+pub loop-x-init : goal.loop-x-init
+unfolding any_to
+loop-x-init c = refl
+
+pub loop-x-preserved : goal.loop-x-preserved
+loop-x-preserved c =
+    let p = elsewhere c.args.pairs.now c.args.d c.args.j in
+    ap (λ b. b || p c.loop-x.x) c.loop-x.invariant ∙ sym (any_step p c.loop-x.x)
+
 pub returns : goal.returns
-returns c =
-    let pairs = c.args.pairs.now in
-    let row = take 32 (drop (32 * c.args.j) pairs) in
-    let width : 32 * c.args.j + 32 - 32 * c.args.j ≡ 32 = omega arith in
-    let e : c.any.result ≡ list_any (is_elsewhere c.args.d) (enumerate_from 0 row) =
-    any_from_yields_List (is_elsewhere c.args.d) c.any.new.self _ c.any.result c.any.ensures.ran
-    (YieldsList-from_enumerate (YieldsList-from_slice row (ap (λ i. iter_rest i) c.enumerate.ensures.source ∙ c.iter.ensures.rest ∙ ap (λ n. take n (drop (32 * c.args.j) pairs)) width)) (cc))
-    (λ x b q k. search (rules, tests)) in
-    e ∙ sym (elsewhere_any pairs c.args.j c.args.d c.requires (search rules))
+returns c = let e : c.loop-x.x ≡ 32 = omega arith in c.loop-x.invariant ∙ ap (any_to (elsewhere c.args.pairs.now c.args.d c.args.j)) e
