@@ -26,9 +26,10 @@ pub record Listed (bytes : List ℕ) (from clock t many : ℕ) (list : List ℕ)
   pub ahead : (start : ℕ) → job_fields bytes start from ≡ job_from bytes start clock t dests (many - i) now
 
 module _ (bytes : List ℕ) (from : ℕ) {clock t many : ℕ} where
-  pub none_listed : {now : ℕ} → many ≤ 256 → ((start : ℕ) → job_fields bytes start from ≡ job_from bytes start clock t [] many now) → Listed bytes from clock t many (replicate 256 0) now 0
-  unfolding padded
-  none_listed {now = now} k h = record { dests = []; count = refl; room = k; stored = refl; ahead = λ start. h start ∙ ap (λ n. job_from bytes start clock t [] n now) (sym (sub-zero many)) }
+  pub none_listed :
+      {now : ℕ} {list : List ℕ} → many ≤ 256 → list ≡ padded 256 [] → ((start : ℕ) → job_fields bytes start from ≡ job_from bytes start clock t [] many now)
+      → Listed bytes from clock t many list now 0
+  none_listed {now = now} k e h = record { dests = []; count = refl; room = k; stored = e; ahead = λ start. h start ∙ ap (λ n. job_from bytes start clock t [] n now) (sym (sub-zero many)) }
 
   module _ {list : List ℕ} {now i : ℕ} (l : Listed bytes from clock t many list now i) where
     pub one_more : i < many → {d next : ℕ} → ranged any_size (number_at bytes now) ≡ number d next → Listed bytes from clock t many (set list i d) next (i + 1)

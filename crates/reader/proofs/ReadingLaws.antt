@@ -56,6 +56,26 @@ refused_alone (closed c) h = refl
 
 -- The part of the journal that is a name, from the answer.
 
+unfoldable pub part_of : List ℕ → Result (Option Whole) Fault → List ℕ
+part_of bytes (Ok (Some w)) = named w.what
+  where
+    named : Record → List ℕ
+    named (Record.Name d size) = take size (drop (w.next - size) bytes)
+    named (Record.Job clock t count) = []
+    named (Record.Pick clock) = []
+    named (Record.Report clock e ticket outcome) = []
+part_of bytes (Ok None) = []
+part_of bytes (Err u) = []
+
+pub part_is : (bytes : List ℕ) (low : ℕ) (f : Found) → Ends bytes low f → part_of bytes (answer_of f) ≡ name_of f
+unfolding part_of record_of answer_of name_of
+part_is bytes low (event (name d word) next) h = h.2.1
+part_is bytes low (event (job clock t dests) next) h = refl
+part_is bytes low (event (pick clock) next) h = refl
+part_is bytes low (event (report clock e ticket outcome) next) h = refl
+part_is bytes low (closed end) h = refl
+part_is bytes low (closed (refused k offset)) h = refl
+
 -- its bytes lie just before its record's end, within the journal
 pub record NamePart (bytes : List ℕ) (f : Found) (size next : ℕ) : Type 0 where
   pub before : size ≤ next
@@ -67,12 +87,12 @@ same_found : {v w : Whole} → ◌≡◌ {A = Result (Option Whole) Fault} (Ok (
 same_found e = cc
 
 name_part : (bytes : List ℕ) (low : ℕ) (f : Found) → Ends bytes low f → {d size next : ℕ} → Ok (Some (record { what = Record.Name d size; next = next })) ≡ answer_of f → NamePart bytes f size next
-unfolding record_of answer_of name_of name_start
+unfolding part_of record_of answer_of name_start
 name_part bytes low (event (name d word) next) h {d = o} {size = size} {next = n} e =
     let what : Record.Name o size ≡ Record.Name d (length word) = ap (λ w. w.what) (same_found e) in
     let long : length word ≡ size = cc in
     let ends : next ≡ n = sym (ap (λ w. w.next) (same_found e)) in
-    rw (← long, ← ends) (record { before = h.2.0; within = h.1; is = h.2.1; start = refl })
+    rw (← long, ← ends) (record { before = h.2.0; within = h.1; is = part_is bytes low (event (name d word) next) h; start = refl })
 name_part bytes low (event (job clock t dests) next) h {d = o} {size = size} e =
     let what : Record.Name o size ≡ Record.Job clock t (length dests) = ap (λ w. w.what) (same_found e) in
     absurd cc

@@ -1,9 +1,8 @@
 -- How the inner functions tell of a record: a refusal alone, since its offset is where the record begins.
-use Rattle.std.specs.Prelude.{ℕ, ◌≡◌, Option, Some, Result, Ok, Err}
+use Rattle.std.specs.Prelude.{ℕ, ◌≡◌, List, Option, Some, Result, Ok, Err}
 use Rattle.rules.specs.declared.Refusal.{Refusal}
 use Rattle.rules.specs.Answers.{refusal_number}
 use Rattle.journal.specs.declared.Whole.{Whole}
-use Rattle.journal.specs.declared.Reading.{Reading}
 use Rattle.journal.specs.Records.{Found}
 use Rattle.journal.specs.Told.{Fault, answer_of, ReadingOf}
 
@@ -16,7 +15,7 @@ whole_at start (Err k) = Err (record { number = refusal_number k; offset = start
 abbrev pub Reads : (ℕ → Found) → Result Whole Refusal → Type 0
 Reads fields r = (start : ℕ) → whole_at start r ≡ answer_of (fields start)
 
--- a reading, or the refusal of a record that begins at an offset
-abbrev pub Gives : ℕ → Found → Result Reading Refusal → Type 0
-Gives start f (Ok r) = ReadingOf f r
-Gives start f (Err k) = Err (record { number = refusal_number k; offset = start }) ≡ answer_of f
+-- a job with its destinations in a list, or the refusal of a record that begins at an offset
+abbrev pub Gives : ℕ → Found → List ℕ → Result Whole Refusal → Type 0
+Gives start f list (Ok whole) = ReadingOf f (record { answer = Ok (Some whole); destinations = list })
+Gives start f list (Err k) = Err (record { number = refusal_number k; offset = start }) ≡ answer_of f

@@ -4,8 +4,8 @@
 ghost use Rattle.std.specs.Prelude.{◌≡◌, ◌+◌, ℕ, []};
 ghost use Rattle.laws.specs.Sequence.{padded};
 ghost use Rattle.journal.specs.Records.{name_fields, job_fields, pick_fields, report_fields, read_at};
-ghost use Rattle.journal.specs.Told.{answer_of, ReadingOf, name_of, name_start};
-ghost use Rattle.reader.specs.Reads.{Reads, Gives};
+ghost use Rattle.journal.specs.Told.{told, ReadingOf, name_of, name_start};
+ghost use Rattle.reader.specs.Reads.{whole_at, Reads, Gives};
 
 use fields::{number, ranged};
 use journal::{Reading, Record, Unreadable, Whole};
@@ -15,10 +15,21 @@ use rules::{Outcome, Refusal};
 pub fn read_at(journal: &[u8], offset: usize) -> Reading
     ensures { ReadingOf (read_at journal.now offset) result }
 {
-    match read_any(journal, offset) {
-        Ok(reading) => reading,
-        Err(refusal) => alone(Err(Unreadable { refusal, offset })),
+    if journal.len() <= offset {
+        return alone(Ok(None));
     }
+    let kind = match ranged(journal, offset, 0, 3) {
+        Ok(kind) => kind,
+        Err(refusal) => return alone(told_at(offset, Err(refusal))),
+    };
+    // each returns by itself, so that its answer is built in place: where ways meet before the end, all of a reading is copied
+    match kind.value {
+        0 => return alone(told_at(offset, read_name(journal, kind.next))),
+        1 => return read_job(journal, offset, kind.next),
+        2 => return alone(told_at(offset, read_pick(journal, kind.next))),
+        _ => {}
+    }
+    alone(told_at(offset, read_report(journal, kind.next)))
 }
 
 // The name that stands at a record's offset, as that very part of the journal: its bytes, where they lie. Where none stands
@@ -46,20 +57,14 @@ fn alone(answer: Result<Option<Whole>, Unreadable>) -> Reading
     }
 }
 
-fn read_any(journal: &[u8], offset: usize) -> Result<Reading, Refusal>
-    ensures { Gives offset (read_at journal.now offset) result }
+// What is told of a record that begins at an offset.
+fn told_at(offset: usize, read: Result<Whole, Refusal>) -> Result<Option<Whole>, Unreadable>
+    ensures { told result ≡ whole_at offset read }
 {
-    if journal.len() <= offset {
-        return Ok(alone(Ok(None)));
+    match read {
+        Ok(whole) => Ok(Some(whole)),
+        Err(refusal) => Err(Unreadable { refusal, offset }),
     }
-    let kind = ranged(journal, offset, 0, 3)?;
-    let whole = match kind.value {
-        0 => read_name(journal, kind.next)?,
-        1 => return read_job(journal, kind.next),
-        2 => read_pick(journal, kind.next)?,
-        _ => read_report(journal, kind.next)?,
-    };
-    Ok(alone(Ok(Some(whole))))
 }
 
 // Each of these reads a record from its first field on.
@@ -81,27 +86,41 @@ fn read_name(journal: &[u8], from: usize) -> Result<Whole, Refusal>
     })
 }
 
-fn read_job(journal: &[u8], from: usize) -> Result<Reading, Refusal>
-    ensures { (start : ℕ) → Gives start (job_fields journal.now start from) result }
+// The destinations are read into their place: an answer that holds them is copied wherever it is handed on.
+fn read_job(journal: &[u8], offset: usize, from: usize) -> Reading
+    ensures { ReadingOf (job_fields journal.now offset from) result }
+{
+    let mut destinations = [0u64; 256];
+    let whole = match read_into(journal, from, &mut destinations) {
+        Ok(whole) => whole,
+        Err(refusal) => return alone(told_at(offset, Err(refusal))),
+    };
+    Reading {
+        answer: Ok(Some(whole)),
+        destinations,
+    }
+}
+
+fn read_into(journal: &[u8], from: usize, list: &mut [u64; 256]) -> Result<Whole, Refusal>
+    requires { list.old ≡ padded 256 [] }
+    ensures { (start : ℕ) → Gives start (job_fields journal.now start from) list.new result }
 {
     let clock = number(journal, from)?;
     let transport = number(journal, clock.next)?;
     let count = ranged(journal, transport.next, 1, 256)?;
-    let mut destinations = [0u64; 256];
     let mut next = count.next;
     for i in 0..count.value as usize {
         let d = number(journal, next)?;
-        destinations[i] = d.value;
+        list[i] = d.value;
         next = d.next;
     }
-    let what = Record::Job {
-        clock: clock.value,
-        transport: transport.value,
-        count: count.value,
-    };
-    Ok(Reading {
-        answer: Ok(Some(Whole { what, next })),
-        destinations,
+    Ok(Whole {
+        what: Record::Job {
+            clock: clock.value,
+            transport: transport.value,
+            count: count.value,
+        },
+        next,
     })
 }
 
