@@ -18,10 +18,11 @@ pub fn ask(s: State, job: u64) -> Result<u32, Refusal>
         return Err(Refusal::Job);
     }
     let j = job as usize;
-    if !s.jobs.present[j] {
+    let jobs = s.jobs;
+    if !jobs.present[j] {
         return Err(Refusal::Job);
     }
-    Ok(s.jobs.overtakers[j])
+    Ok(jobs.overtakers[j])
 }
 
 // The board text at the front of the lent buffer; bytes past it stay.

@@ -6,6 +6,7 @@ ghost use Rattle.rules.specs.Sizes.{last_second};
 ghost use Rattle.rules.specs.SoundFacts.{Sound};
 ghost use Rattle.counting.specs.Counting.{Paired};
 ghost use Rattle.choice.specs.Choosing.{choice_of, picked_from};
+ghost use Rattle.rules.proofs.Shape.{Shaped};
 
 use eligibility::{Tables, first_waiting, left_waiting, open_table};
 use preemption::{Preemptor, find_preemptor};
@@ -42,6 +43,16 @@ fn picked_from(current: u8, preemptor: Option<Preemptor>) -> u8
 pub fn choose(w: State, now: u64, pairs: &[u16; 1024]) -> Option<Choice>
     requires { (Sound w) × (w.clock ≤ now) × (now ≤ last_second) × Paired w.entries.kind w.entries.job w.entries.destination pairs.now }
     ensures { result ≡ choice_of w now }
+{
+    choose_at(&w, now, pairs)
+}
+
+// The same of a state where it stands, which is not copied. That its arrays are as long as their types say, the caller knows, who has it by value.
+pub fn choose_at(w: &State, now: u64, pairs: &[u16; 1024]) -> Option<Choice>
+    requires shape { Shaped w.now }
+    requires given { (Sound w.now) × (w.now.clock ≤ now) × (now ≤ last_second)
+        × Paired w.now.entries.kind w.now.entries.job w.now.entries.destination pairs.now }
+    ensures { result ≡ choice_of w.now now }
 {
     let room = open_table(w.destinations, w.busy, w.setup);
     let waits = left_waiting(&w.jobs);

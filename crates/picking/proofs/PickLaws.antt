@@ -215,7 +215,7 @@ module _ (w : State) (now : ℕ) (c : Choice) (e : Some c ≡ choice_of w now) (
 -- The same of the state w that the code has woken.
 
 module _ (s : State) (now : ℕ) (r : Ready s now) (w : State) (p : w ≡ woken s now) where
-  own_shape : Shaped w
+  pub own_shape : Shaped w
   own_shape = subst Shaped (sym p) r.shaped
 
   pub own_sound : Sound w

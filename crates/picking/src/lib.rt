@@ -19,9 +19,12 @@ pub fn pick(s: State, now: u64) -> HandedBack<Option<PickAnswer>>
     ensures reply { pick_gave result ≡ pick_reply s now }
     ensures found { FindsExactly s now result.answer }
 {
-    let mut state = s;
-    let answer = pick_from(&mut state, now);
-    HandedBack { answer, state }
+    let mut back = HandedBack {
+        answer: Ok(None),
+        state: s,
+    };
+    back.answer = pick_from(&mut back.state, now);
+    back
 }
 
 // The same of a state in its place: a refusal leaves it as it came. That its arrays are as long as their types say, the caller knows, who has it by value.
@@ -30,7 +33,7 @@ fn pick_from(state: &mut State, now: u64) -> Result<Option<PickAnswer>, Refusal>
     ensures { pick_gave (record { answer = result; state = state.new }) ≡ pick_reply state.old now }
 {
     let mut pairs = [0; 1024];
-    if !soundness::sound_with(*state, &mut pairs) {
+    if !soundness::sound_at(state, &mut pairs) {
         return Err(Refusal::Unsound);
     }
     if waking::bad_clock(state.clock, now) {
@@ -44,7 +47,7 @@ fn pick_from(state: &mut State, now: u64) -> Result<Option<PickAnswer>, Refusal>
         state.setup.destinations,
         now,
     );
-    let Some(c) = choice::choose(*state, now, &pairs) else {
+    let Some(c) = choice::choose_at(state, now, &pairs) else {
         return Ok(None);
     };
     if let Some(p) = c.preemptor {

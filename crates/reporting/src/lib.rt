@@ -19,9 +19,12 @@ pub fn report(
 ) -> HandedBack<ReportAnswer>
     ensures { report_gave result list.new ≡ report_reply s now entry ticket outcome list.old }
 {
-    let mut state = s;
-    let answer = settle(&mut state, now, entry, ticket, outcome, list);
-    HandedBack { answer, state }
+    let mut back = HandedBack {
+        answer: Err(Refusal::Unsound),
+        state: s,
+    };
+    back.answer = settle(&mut back.state, now, entry, ticket, outcome, list);
+    back
 }
 
 // The same of a state in its place: a refusal leaves it as it came. That its arrays are as long as their types say, the caller knows, who has it by value.
@@ -37,7 +40,7 @@ fn settle(
     ensures { report_gave (record { answer = result; state = state.new }) list.new ≡ report_reply state.old now entry ticket outcome list.old }
 {
     let mut pairs = [0; 1024];
-    if !soundness::sound_with(*state, &mut pairs) {
+    if !soundness::sound_at(state, &mut pairs) {
         return Err(Refusal::Unsound);
     }
     if waking::bad_clock(state.clock, now) {

@@ -3,6 +3,7 @@
 
 ghost use Rattle.std.specs.Prelude.{◌≡◌, false};
 ghost use Rattle.rules.specs.Sound.{sound};
+ghost use Rattle.rules.proofs.Shape.{Shaped};
 ghost use Rattle.counting.specs.Counting.{no_pairs, Pairs};
 
 use clauses::{destinations, jobs};
@@ -22,6 +23,16 @@ pub fn sound_with(s: State, pairs: &mut [u16; 1024]) -> bool
     requires { pairs.old ≡ no_pairs }
     ensures answer { result ≡ sound s }
     ensures pairs { Pairs result s.entries.kind s.entries.job s.entries.destination pairs.new }
+{
+    sound_at(&s, pairs)
+}
+
+// The same of a state where it stands, which is not copied. That its arrays are as long as their types say, the caller knows, who has it by value.
+pub fn sound_at(s: &State, pairs: &mut [u16; 1024]) -> bool
+    requires shape { Shaped s.now }
+    requires pairs { pairs.old ≡ no_pairs }
+    ensures answer { result ≡ sound s.now }
+    ensures pairs { Pairs result s.now.entries.kind s.now.entries.job s.now.entries.destination pairs.new }
 {
     if !ranges::in_range(s.setup) {
         return false;

@@ -22,9 +22,12 @@ pub fn take_job(
 ) -> HandedBack<JobAnswer>
     ensures { job_gave result list.new ≡ job_reply s now transport dests.now list.old }
 {
-    let mut state = s;
-    let answer = take(&mut state, now, transport, dests, list);
-    HandedBack { answer, state }
+    let mut back = HandedBack {
+        answer: Err(Refusal::Unsound),
+        state: s,
+    };
+    back.answer = take(&mut back.state, now, transport, dests, list);
+    back
 }
 
 // The same of a state in its place: a refusal leaves it as it came. That its arrays are as long as their types say, the caller knows, who has it by value.
@@ -39,7 +42,7 @@ fn take(
     ensures { job_gave (record { answer = result; state = state.new }) list.new ≡ job_reply state.old now transport dests.now list.old }
 {
     let mut pairs = [0; 1024];
-    if !soundness::sound_with(*state, &mut pairs) {
+    if !soundness::sound_at(state, &mut pairs) {
         return Err(Refusal::Unsound);
     }
     if waking::bad_clock(state.clock, now) {

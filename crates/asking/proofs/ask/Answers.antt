@@ -24,12 +24,12 @@ returns-then-job-ge32 c =
     ask_absent s e.args.job (whole (goal.at.returns-then-job-ge32 e).Else-not-sound)
     (get_or-eq_default s.jobs.present false (subst (λ n. n ≤ e.args.job) (sym (present_length (shaped s e.well_formed.0).jobs)) c.if-job-ge32.true))
 
-pub returns-then-not-s-j : goal.returns-then-not-s-j
-returns-then-not-s-j c =
+pub returns-then-not-jobs-j : goal.returns-then-not-jobs-j
+returns-then-not-jobs-j c =
     let e = c in
-    ask_absent e.args.s e.args.job (whole (goal.at.returns-then-not-s-j e).Else-not-sound) c.if-not-s-j.true
+    ask_absent e.args.s e.args.job (whole (goal.at.returns-then-not-jobs-j e).Else-not-sound) c.if-not-jobs-j.true
 
 pub returns : goal.returns
 returns c =
     let e = c in
-    ask_answered e.args.s e.args.job _ (whole (goal.at.returns e).Else-not-sound) c.if-not-s-j.false refl
+    ask_answered e.args.s e.args.job _ (whole (goal.at.returns e).Else-not-sound) c.if-not-jobs-j.false refl

@@ -12,18 +12,18 @@ use Rattle.rules.proofs.Replies.{reply_clock, reply_accepted, reply_unsound}
 use Rattle.waking.proofs.WakingLaws.{clock_is, wakes, built, woken_built}
 use Rattle.choice.specs.Choosing.{choice_of}
 use Rattle.picking.specs.May.{MayHandOut}
-use Rattle.picking.proofs.PickLaws.{Ready, ready, own_sound, gives_nothing, may_move, may_hand_plain, may_hand_moved, gives_plain, gives_moved}
+use Rattle.picking.proofs.PickLaws.{Ready, ready, own_shape, own_sound, gives_nothing, may_move, may_hand_plain, may_hand_moved, gives_plain, gives_moved}
 use Rattle.picking.proofs.PickReplies.{pick_unrefused}
 use Rattle.picking.proofs.pick_from.Goals as goal
-use Rattle.picking.proofs.pick_from.Goals.{After-wake-state, Else-bad_clock, Else-not-sound_with, In-Some, Joined-c, in-Some-preemptor, in_default-preemptor}
+use Rattle.picking.proofs.pick_from.Goals.{After-wake-state, Else-bad_clock, Else-not-sound_at, In-Some, Joined-c, in-Some-preemptor, in_default-preemptor}
 
 -- the state that came is sound
-whole : (c : Else-not-sound_with) → sound c.args.state.now ≡ true
-whole c = sym c.sound_with.ensures.answer ∙ c.if-not-sound_with.false
+whole : (c : Else-not-sound_at) → sound c.args.state.now ≡ true
+whole c = sym c.sound_at.ensures.answer ∙ c.if-not-sound_at.false
 
 unrefused : (c : Else-bad_clock) → pick_refusal c.args.state.now c.args.now ≡ 0
 unrefused c =
-    pick_unrefused c.args.state.now c.args.now (whole (goal.at.Else-bad_clock c).Else-not-sound_with)
+    pick_unrefused c.args.state.now c.args.now (whole (goal.at.Else-bad_clock c).Else-not-sound_at)
     (sym (clock_is c.args.state.now c.args.now _ c.bad_clock.ensures) ∙ c.if-bad_clock.false)
 
 start : (c : Else-bad_clock) → Ready c.args.state.now c.args.now
@@ -36,30 +36,31 @@ woke c = built c.args.state.now c.args.now c.wake-state.result
 awake : (c : After-wake-state) → woke c ≡ woken c.args.state.now c.args.now
 awake c = woken_built c.args.state.now c.args.now c.wake-state.result c.wake-state.ensures
 
-pub returns-then-not-sound_with : goal.returns-then-not-sound_with
-returns-then-not-sound_with c = reply_unsound c.args.state.now (Call.pick c.args.now) (sym c.sound_with.ensures.answer ∙ c.if-not-sound_with.true)
+pub returns-then-not-sound_at : goal.returns-then-not-sound_at
+returns-then-not-sound_at c = reply_unsound c.args.state.now (Call.pick c.args.now) (sym c.sound_at.ensures.answer ∙ c.if-not-sound_at.true)
 
 pub returns-then-bad_clock : goal.returns-then-bad_clock
 returns-then-bad_clock c =
     let bad = sym (clock_is c.args.state.now c.args.now _ c.bad_clock.ensures) ∙ c.if-bad_clock.true in
-    reply_clock c.args.state.now (Call.pick c.args.now) (whole (goal.at.returns-then-bad_clock c).Else-not-sound_with) bad
+    reply_clock c.args.state.now (Call.pick c.args.now) (whole (goal.at.returns-then-bad_clock c).Else-not-sound_at) bad
 
 pub wake-state-requires : goal.wake-state-requires
 wake-state-requires c = wakes c.args.state.now c.args.now (start (goal.at.wake-state-requires c).Else-bad_clock).came
 
-pub choose-requires : goal.choose-requires
-choose-requires c =
-    let ready-here = start (goal.at.choose-requires c).Else-bad_clock in (
-      own_sound c.args.state.now c.args.now ready-here _ (awake (goal.at.choose-requires c).After-wake-state),
-      le_refl c.args.now,
-      ready-here.early,
-      c.sound_with.ensures.pairs.counted c.if-not-sound_with.false,
-    )
+pub choose_at-requires : goal.choose_at-requires
+choose_at-requires c =
+    let a = c.args in
+    let ready-here = start (goal.at.choose_at-requires c).Else-bad_clock in
+    let own = awake (goal.at.choose_at-requires c).After-wake-state in
+    record {
+      shape = own_shape a.state.now a.now ready-here _ own;
+      given = (own_sound a.state.now a.now ready-here _ own, le_refl a.now, ready-here.early, c.sound_at.ensures.pairs.counted c.if-not-sound_at.false);
+    }
 
 pub returns-in_default : goal.returns-in_default
 returns-in_default c =
     let a = c.args in
-    let e : None ≡ choice_of (woke (goal.at.returns-in_default c).After-wake-state) a.now = sym c.in_default.is ∙ c.choose.ensures in
+    let e : None ≡ choice_of (woke (goal.at.returns-in_default c).After-wake-state) a.now = sym c.in_default.is ∙ c.choose_at.ensures in
     reply_accepted a.state.now (Call.pick a.now) _ (unrefused (goal.at.returns-in_default c).Else-bad_clock)
     (gives_nothing a.state.now a.now (start (goal.at.returns-in_default c).Else-bad_clock) _ (awake (goal.at.returns-in_default c).After-wake-state) e)
 
@@ -69,7 +70,7 @@ abbrev chosen-of : In-Some → State
 chosen-of c = woke (goal.at.In-Some c).After-wake-state
 
 is-choice : (c : In-Some) → Some c.in-Some.c ≡ choice_of (chosen-of c) c.args.now
-is-choice c = sym c.in-Some.is ∙ c.choose.ensures
+is-choice c = sym c.in-Some.is ∙ c.choose_at.ensures
 
 abbrev MayHand : In-Some → State → Type 0
 MayHand c w = MayHandOut w c.in-Some.c.transport c.in-Some.c.job c.in-Some.c.place c.in-Some.c.entry

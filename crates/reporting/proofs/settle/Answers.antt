@@ -26,11 +26,11 @@ use Rattle.rules.proofs.Accepted.{ReportAccepted, report_accepted}
 use Rattle.reporting.proofs.ReportLaws.{ReportAsks, report_asks, step_asks, put_off_asks, adopt_asks, report_is}
 use Rattle.reporting.proofs.Stayers.{others_live, stay_asks}
 use Rattle.reporting.proofs.settle.Goals as goal
-use Rattle.reporting.proofs.settle.Goals.{After-staying-stays, After-refusal, After-wake-ds, Else-bad_clock, In_ok-refusal, Else-not-sound_with}
+use Rattle.reporting.proofs.settle.Goals.{After-staying-stays, After-refusal, After-wake-ds, Else-bad_clock, In_ok-refusal, Else-not-sound_at}
 
 -- the state that came is sound
-whole : (c : Else-not-sound_with) → sound c.args.state.now ≡ true
-whole c = sym c.sound_with.ensures.answer ∙ c.if-not-sound_with.false
+whole : (c : Else-not-sound_at) → sound c.args.state.now ≡ true
+whole c = sym c.sound_at.ensures.answer ∙ c.if-not-sound_at.false
 
 -- a state that came in has its shape
 shape : (c : Else-bad_clock) → Shaped c.args.state.now
@@ -42,7 +42,7 @@ good c = sym (clock_is c.args.state.now c.args.now _ c.bad_clock.ensures) ∙ c.
 refusal_is : (c : After-refusal) → refusal_in c.refusal.result ≡ report_refusal c.args.state.now c.args.now c.args.entry c.args.ticket c.args.list.now
 refusal_is c =
     c.refusal.ensures
-    ∙ entry_refusal_is c.args.state.now c.args.now c.args.entry c.args.ticket c.args.list.now (whole (goal.at.After-refusal c).Else-not-sound_with) (good (goal.at.After-refusal c).Else-bad_clock)
+    ∙ entry_refusal_is c.args.state.now c.args.now c.args.entry c.args.ticket c.args.list.now (whole (goal.at.After-refusal c).Else-not-sound_at) (good (goal.at.After-refusal c).Else-bad_clock)
 
 accepted : (c : In_ok-refusal) → report_refusal c.args.state.now c.args.now c.args.entry c.args.ticket c.args.list.now ≡ 0
 accepted c = sym (refusal_is (goal.at.In_ok-refusal c).After-refusal) ∙ ap refusal_in c.in_ok-refusal.was
@@ -59,16 +59,16 @@ own-queue c = same_list c.args.state.now _ (shape (goal.at.In_ok-refusal c).Else
 awake : (c : After-wake-ds) → c.wake-ds.result ≡ (woken c.args.state.now c.args.now).destinations
 awake c = woken_is c.args.state.now c.args.now c.wake-ds.result c.wake-ds.ensures
 
-pub returns-then-not-sound_with : goal.returns-then-not-sound_with
-returns-then-not-sound_with c =
+pub returns-then-not-sound_at : goal.returns-then-not-sound_at
+returns-then-not-sound_at c =
     let a = c.args in
-    reply_unsound a.state.now (Call.report a.now a.entry a.ticket a.outcome a.list.now) (sym c.sound_with.ensures.answer ∙ c.if-not-sound_with.true)
+    reply_unsound a.state.now (Call.report a.now a.entry a.ticket a.outcome a.list.now) (sym c.sound_at.ensures.answer ∙ c.if-not-sound_at.true)
 
 pub returns-then-bad_clock : goal.returns-then-bad_clock
 returns-then-bad_clock c =
     let a = c.args in
     let bad = sym (clock_is a.state.now a.now _ c.bad_clock.ensures) ∙ c.if-bad_clock.true in
-    reply_clock a.state.now (Call.report a.now a.entry a.ticket a.outcome a.list.now) (whole (goal.at.returns-then-bad_clock c).Else-not-sound_with) bad
+    reply_clock a.state.now (Call.report a.now a.entry a.ticket a.outcome a.list.now) (whole (goal.at.returns-then-bad_clock c).Else-not-sound_at) bad
 
 pub returns-in_err-refusal : goal.returns-in_err-refusal
 returns-in_err-refusal c =
@@ -143,7 +143,7 @@ staying-stays-requires c =
     let put = rw c.then_some-dead.ensures at c.put_off-putoff.ensures in
     let own = off_of c.is_death.result _ _ _ _ _ _ _ _ _ _ put in (
       (asks (goal.at.staying-stays-requires c).In_ok-refusal).job,
-      rw c.then_some-dead.ensures (stay_asks _ _ _ _ _ can-here own refl (c.sound_with.ensures.pairs.counted c.if-not-sound_with.false) (others_live _ _ _ _ _ can-here own refl) c.is_death.result refl),
+      rw c.then_some-dead.ensures (stay_asks _ _ _ _ _ can-here own refl (c.sound_at.ensures.pairs.counted c.if-not-sound_at.false) (others_live _ _ _ _ _ can-here own refl) c.is_death.result refl),
     )
 
 pub adopt-state-requires : goal.adopt-state-requires

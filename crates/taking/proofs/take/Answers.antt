@@ -26,11 +26,11 @@ use Rattle.rules.proofs.Replies.{reply_refusal, reply_clock, reply_accepted, rep
 use Rattle.taking.proofs.Replying.{Facts, facts_of, accepted_small, accepted_transport, number_is, waits_none, waits_some, number_small, waits_few}
 use Rattle.taking.proofs.Replying.{kept_front, kept_few, column_same, kept_small, places_enough, places_small, column_is, arrivals_room, queue_room, queue_is, taken_is, replies_none, replies_some}
 use Rattle.taking.proofs.take.Goals as goal
-use Rattle.taking.proofs.take.Goals.{After-put_last-state, After-dead_table-dead, After-unwrap-job, After-put_last-state, After-refusal, After-split-parts, After-wake-ds, Else-bad_clock, In_ok-refusal, Else-not-sound_with}
+use Rattle.taking.proofs.take.Goals.{After-put_last-state, After-dead_table-dead, After-unwrap-job, After-put_last-state, After-refusal, After-split-parts, After-wake-ds, Else-bad_clock, In_ok-refusal, Else-not-sound_at}
 
 -- the state that came is sound
-whole : (c : Else-not-sound_with) → sound c.args.state.now ≡ true
-whole c = sym c.sound_with.ensures.answer ∙ c.if-not-sound_with.false
+whole : (c : Else-not-sound_at) → sound c.args.state.now ≡ true
+whole c = sym c.sound_at.ensures.answer ∙ c.if-not-sound_at.false
 
 -- a state that came in has its shape
 shape : (c : Else-bad_clock) → Shaped c.args.state.now
@@ -48,7 +48,7 @@ table c = c.dead_table-dead.ensures ∙ ap (λ ds. table_to (dead_on ds) 32) (aw
 refusal_is : (c : After-refusal) → refusal_in c.refusal.result ≡ job_refusal c.args.state.now c.args.now c.args.transport c.args.dests.now c.args.list.now
 refusal_is c =
     c.refusal.ensures
-    ∙ further_is c.args.state.now c.args.now c.args.transport c.args.dests.now c.args.list.now (whole (goal.at.After-refusal c).Else-not-sound_with) (good (goal.at.After-refusal c).Else-bad_clock) c.dead_table-dead.result (table (goal.at.After-refusal c).After-dead_table-dead)
+    ∙ further_is c.args.state.now c.args.now c.args.transport c.args.dests.now c.args.list.now (whole (goal.at.After-refusal c).Else-not-sound_at) (good (goal.at.After-refusal c).Else-bad_clock) c.dead_table-dead.result (table (goal.at.After-refusal c).After-dead_table-dead)
 
 unrefused : (c : In_ok-refusal) → job_refusal c.args.state.now c.args.now c.args.transport c.args.dests.now c.args.list.now ≡ 0
 unrefused c = sym (refusal_is (goal.at.In_ok-refusal c).After-refusal) ∙ ap refusal_in c.in_ok-refusal.was
@@ -70,26 +70,26 @@ number c = number_is c.args.state.now c.args.now c.unwrap-job.result (sym c.unwr
 small : (c : After-unwrap-job) → c.unwrap-job.result < 32
 small c = number_small (facts (goal.at.After-unwrap-job c).After-split-parts) c.if-n-eq0.false c.unwrap-job.result (number c)
 
-pub returns-then-not-sound_with : goal.returns-then-not-sound_with
-returns-then-not-sound_with c =
+pub returns-then-not-sound_at : goal.returns-then-not-sound_at
+returns-then-not-sound_at c =
     let a = c.args in
-    reply_unsound a.state.now (Call.job a.now a.transport a.dests.now a.list.now) (sym c.sound_with.ensures.answer ∙ c.if-not-sound_with.true)
+    reply_unsound a.state.now (Call.job a.now a.transport a.dests.now a.list.now) (sym c.sound_at.ensures.answer ∙ c.if-not-sound_at.true)
 
 pub returns-then-bad_clock : goal.returns-then-bad_clock
 returns-then-bad_clock c =
     let a = c.args in
     let bad = sym (clock_is a.state.now a.now _ c.bad_clock.ensures) ∙ c.if-bad_clock.true in
-    reply_clock a.state.now (Call.job a.now a.transport a.dests.now a.list.now) (whole (goal.at.returns-then-bad_clock c).Else-not-sound_with) bad
+    reply_clock a.state.now (Call.job a.now a.transport a.dests.now a.list.now) (whole (goal.at.returns-then-bad_clock c).Else-not-sound_at) bad
 
 pub wake-ds-requires : goal.wake-ds-requires
 wake-ds-requires c =
     let p = c in
-    wakes p.args.state.now p.args.now (sound_facts p.args.state.now (whole (goal.at.wake-ds-requires p).Else-not-sound_with))
+    wakes p.args.state.now p.args.now (sound_facts p.args.state.now (whole (goal.at.wake-ds-requires p).Else-not-sound_at))
 
 pub refusal-requires : goal.refusal-requires
 refusal-requires c =
     let p = c in
-    few_destinations p.args.state.now (whole (goal.at.refusal-requires p).Else-not-sound_with)
+    few_destinations p.args.state.now (whole (goal.at.refusal-requires p).Else-not-sound_at)
 
 pub returns-in_err-refusal : goal.returns-in_err-refusal
 returns-in_err-refusal c =
