@@ -63,19 +63,22 @@ fn asked<E: Env + Eprint>(rt: &E) -> io::Result<u64> {
         Err(FillError::NotPresent) => return Ok(u64::MAX),
         Err(FillError::TooLong) => 0,
     };
-    match budget_of(&space[..n]) {
-        Some(budget) => Ok(budget),
-        None => {
-            eprintln!(rt;
-                "replay: the first argument is not a number of records; all are replayed"
-            )?;
-            Ok(u64::MAX)
-        }
+    let word = &space[..n];
+    if number_asked(word).is_none() {
+        eprintln!(rt; "replay: the first argument is not a number of records; all are replayed")?;
     }
+    Ok(budget_of(word))
 }
 
-// The budget of a word; none where it is no number. A number past every journal is all records.
-fn budget_of(word: &[u8]) -> Option<u64>
+// The budget of a word; all records where it is no number.
+fn budget_of(word: &[u8]) -> u64
+    ensures { result ≡ budget_of word.now }
+{
+    number_asked(word).unwrap_or(u64::MAX)
+}
+
+// How many records a word asks for; none where it is no number. A number past every journal is all records.
+fn number_asked(word: &[u8]) -> Option<u64>
     ensures told { is_some result ≡ is_decimal word.now }
     ensures budget { unwrap_or result all ≡ budget_of word.now }
 {

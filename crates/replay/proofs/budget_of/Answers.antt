@@ -1,11 +1,6 @@
--- What was read is the number of the word; digits that are no number ask for all. Assumes nothing.
-use Rattle.std.proofs.Common.{sym, ◌∙◌}
-use Rattle.replay.proofs.BudgetLaws.{budget_not, budget_read}
+-- The number that the word asks for, or all. Assumes nothing.
+use Rattle.std.proofs.Common.{◌∙◌}
 use Rattle.replay.proofs.budget_of.Goals as goal
 
-pub returns-then-not-is_decimal-clause-budget : goal.returns-then-not-is_decimal-clause-budget
-returns-then-not-is_decimal-clause-budget c = budget_not _ (sym c.is_decimal.ensures ∙ c.if-not-is_decimal.true)
-
-pub returns-clause-budget : goal.returns-clause-budget
-returns-clause-budget c =
-    c.unwrap_or.ensures ∙ budget_read _ (sym c.is_decimal.ensures ∙ c.if-not-is_decimal.false) c.read_number.result c.read_number.ensures
+pub returns : goal.returns
+returns c = c.unwrap_or.ensures ∙ c.number_asked.ensures.budget
