@@ -66,10 +66,10 @@ pub returns-then-places-dests : goal.returns-then-places-dests
 returns-then-places-dests c =
     let at = goal.at.returns-then-places-dests c in
     refuses_list _ _ _ _ _ _ _ _ _ c.if-transports-t.false (right at.Else-not-all_on) (theirs at.Else-not-all_on) (number at.Joined-else-n-gt0) (omega arith)
-    c.if-places-dests.true
+    (omega (arith, c.if-places-dests.true))
 
 pub returns : goal.returns
 returns c =
     let at = goal.at.returns c in
     refuses_nothing _ _ _ _ _ _ _ _ _ c.if-transports-t.false (right at.Else-not-all_on) (theirs at.Else-not-all_on) (number at.Joined-else-n-gt0) (omega arith)
-    c.if-places-dests.false
+    (omega (arith, c.if-places-dests.false))

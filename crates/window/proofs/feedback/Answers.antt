@@ -1,5 +1,6 @@
 -- One law for each form, as the rule says. Assumes nothing.
-use mathlib.Core.Path.{sym, ◌∙◌}
+use mathlib.Core.Path.{sym, ap, ◌∙◌}
+use Rattle.std.specs.Int.{div_ceil}
 use native.Mathlib.Omega.{arith}
 use Rattle.window.proofs.WindowLaws.{feedback_flat, feedback_per_window, feedback_root, root_high}
 use Prim.Native.Nat.{◌*◌}
@@ -11,7 +12,9 @@ pub returns-in-0 : goal.returns-in-0
 returns-in-0 c = sym (feedback_flat _ _ c.in-0.is)
 
 pub returns-in-1 : goal.returns-in-1
-returns-in-1 c = c.div_ceil.ensures ∙ ceil_is (c.args.f.percent * U) (100 * c.args.window) (omega arith) ∙ sym (feedback_per_window _ _ c.in-1.is)
+returns-in-1 c =
+    c.div_ceil.ensures ∙ ap (λ x. div_ceil x (100 * c.args.window)) (omega arith) ∙ ceil_is (c.args.f.percent * U) (100 * c.args.window) (omega arith)
+    ∙ sym (feedback_per_window _ _ c.in-1.is)
 
 pub overflow_mul-result-in_default : goal.overflow_mul-result-in_default
 overflow_mul-result-in_default c = omega (arith, root_high _ _ _ c.requires.0 c.root.ensures)
