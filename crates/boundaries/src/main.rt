@@ -87,7 +87,7 @@ fn run<R: Read, W: Write>(
     Ok(())
 }
 
-// Writes a line, does what it says, and writes what came out.
+// Writes a line, does what it says, and writes what came out. Each way returns by itself: where they meet, both states are copied once more.
 fn step<W: Write>(
     to: &mut W,
     line: &[u8],
@@ -103,28 +103,27 @@ fn step<W: Write>(
     match line {
         b"keep" => {
             write_answer(to, out, 0)?;
-            Ok(Desk {
+            return Ok(Desk {
                 state: desk.state,
                 kept: desk.state,
-            })
+            });
         }
         b"back" => {
             write_answer(to, out, 0)?;
-            Ok(Desk {
+            return Ok(Desk {
                 state: desk.kept,
                 kept: desk.kept,
-            })
+            });
         }
-        _ => {
-            let Repeat { count, start } = reading::read_repeat(line);
-            let r = times(count, &line[start..], words, list, written, out, desk.state);
-            write_answer(to, out, r.length)?;
-            Ok(Desk {
-                state: r.state,
-                kept: desk.kept,
-            })
-        }
+        _ => {}
     }
+    let Repeat { count, start } = reading::read_repeat(line);
+    let r = times(count, &line[start..], words, list, written, out, desk.state);
+    write_answer(to, out, r.length)?;
+    Ok(Desk {
+        state: r.state,
+        kept: desk.kept,
+    })
 }
 
 // An answer of n bytes, its line end among them; a line end where there is none.
