@@ -18,6 +18,7 @@ pub fn ask(s: State, job: u64) -> Result<u32, Refusal>
         return Err(Refusal::Job);
     }
     let j = job as usize;
+    // a part of its own: where the argument itself is indexed, all of it is copied
     let jobs = s.jobs;
     if !jobs.present[j] {
         return Err(Refusal::Job);

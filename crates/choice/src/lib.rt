@@ -47,7 +47,7 @@ pub fn choose(w: State, now: u64, pairs: &[u16; 1024]) -> Option<Choice>
     choose_at(&w, now, pairs)
 }
 
-// The same of a state where it stands, which is not copied. That its arrays are as long as their types say, the caller knows, who has it by value.
+// The same of a state where it stands, which is not copied. That its arrays are as long as their types say is asked: behind a reference a proof does not see it.
 pub fn choose_at(w: &State, now: u64, pairs: &[u16; 1024]) -> Option<Choice>
     requires shape { Shaped w.now }
     requires given { (Sound w.now) × (w.now.clock ≤ now) × (now ≤ last_second)

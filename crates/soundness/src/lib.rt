@@ -27,7 +27,7 @@ pub fn sound_with(s: State, pairs: &mut [u16; 1024]) -> bool
     sound_at(&s, pairs)
 }
 
-// The same of a state where it stands, which is not copied. That its arrays are as long as their types say, the caller knows, who has it by value.
+// The same of a state where it stands, which is not copied. That its arrays are as long as their types say is asked: behind a reference a proof does not see it.
 pub fn sound_at(s: &State, pairs: &mut [u16; 1024]) -> bool
     requires shape { Shaped s.now }
     requires pairs { pairs.old ≡ no_pairs }
