@@ -19,6 +19,7 @@ pub fn pick(s: State, now: u64) -> HandedBack<Option<PickAnswer>>
     ensures reply { pick_gave result ≡ pick_reply s now }
     ensures found { FindsExactly s now result.answer }
 {
+    // the state is worked in where it is handed back, so that it is copied once; the answer follows
     let mut back = HandedBack {
         answer: Ok(None),
         state: s,

@@ -19,6 +19,7 @@ pub fn report(
 ) -> HandedBack<ReportAnswer>
     ensures { report_gave result list.new ≡ report_reply s now entry ticket outcome list.old }
 {
+    // the state is worked in where it is handed back, so that it is copied once; the answer follows
     let mut back = HandedBack {
         answer: Err(Refusal::Unsound),
         state: s,

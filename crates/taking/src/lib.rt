@@ -22,6 +22,7 @@ pub fn take_job(
 ) -> HandedBack<JobAnswer>
     ensures { job_gave result list.new ≡ job_reply s now transport dests.now list.old }
 {
+    // the state is worked in where it is handed back, so that it is copied once; the answer follows
     let mut back = HandedBack {
         answer: Err(Refusal::Unsound),
         state: s,
